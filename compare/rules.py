@@ -1,0 +1,853 @@
+#!/usr/bin/env python3
+"""The rules of docs/RULES.md a second time, in Python's standard library alone.
+
+It is written from the rules and shares no code with the Rattle crates or with the Rust. Each function names the
+rules that it carries by their identifiers there. A refusal is the exception Refused, with its number and its offset.
+
+    python3 compare/rules.py                                    the self-test
+    python3 compare/rules.py pack|unpack|planlist|vectors       what that program does, standard input to output
+"""
+import random
+import sys
+from collections import namedtuple
+
+UNIT_LIMIT = 1_048_576          # L1, bytes of a unit
+MTU_LIMIT = 65_533              # L2
+PAYLOAD_LIMIT = 65_533          # L3, bytes of a payload that the receiver takes
+FRAGMENT_LIMIT = 1_048_576      # L4, bytes of an open fragment
+FIELD_BYTES = 8                 # L5, bytes of a size field
+FIELD_VALUE = 4_294_967_295     # L6, value of a size field
+STORE_BYTES = 32_768            # L12 and L15, unit store of pack and planlist, fragment store of unpack
+LIST_RECORDS = 512              # L13, OBU list and plan list of pack and planlist
+OUTPUT_BYTES = 65_536           # L14, output of pack and unpack
+OBU_NUMBERS = 5                 # L16, numbers of an OBU record in a flat list
+PLAN_NUMBERS = 5                # L16, numbers of a plan record in a flat list
+
+Obu = namedtuple("Obu", "header extension start length size")      # O7
+Packet = namedtuple("Packet", "first count offset last size")       # P2
+State = namedtuple("State", "begun last open")                      # V1
+FRESH = State(False, 0, 0)
+
+
+class Refused(Exception):
+    """W14. A refusal: its number, and its offset (0 where the rules name none)."""
+
+    def __init__(self, number, offset=0):
+        super().__init__(number, offset)
+        self.number = number
+        self.offset = offset
+
+
+# ---- size fields
+
+def read_field(data, at=0):
+    """F1 to F3. The size field at `at`: value and bytes used, or R5 or R6."""
+    left = len(data) - at
+    value = 0
+    for i in range(min(FIELD_BYTES, left)):
+        byte = data[at + i]
+        value += (byte & 127) * 128 ** i
+        if byte < 128:
+            if value > FIELD_VALUE:
+                raise Refused(6)
+            return value, i + 1
+    raise Refused(5 if left < FIELD_BYTES else 6)
+
+
+def write_field(value):
+    """F4. The shortest size field of this value."""
+    field = bytearray()
+    while value >= 128:
+        field.append(128 + value % 128)
+        value //= 128
+    field.append(value)
+    return bytes(field)
+
+
+def field_size(value):
+    """F4. How long the shortest size field of this value is."""
+    size = 1
+    while value >= 128:
+        value //= 128
+        size += 1
+    return size
+
+
+# ---- OBUs
+
+def obu_type(header):
+    """O2, H7. Bits 3 to 6 of the header byte."""
+    return header >> 3 & 15
+
+
+def has_extension(header):
+    """O2, O3. Bit 2: an extension byte follows."""
+    return header & 4 != 0
+
+
+def has_size(header):
+    """O2, O4. Bit 1: a size field follows."""
+    return header & 2 != 0
+
+
+def is_kept(header):
+    """W4. Types 2, 8 and 15 are dropped, all others kept."""
+    return obu_type(header) not in (2, 8, 15)
+
+
+def obu_at(unit, at):
+    """O2 to O7. The OBU whose header byte is at `at`, or R3 to R7 in this order, at `at`."""
+    header, extension, after = unit[at], 0, at + 1
+    if has_extension(header):
+        if after == len(unit):
+            raise Refused(3, at)
+        extension = unit[after]
+        after += 1
+    if has_size(header):
+        if after == len(unit):
+            raise Refused(4, at)
+        try:
+            length, used = read_field(unit, after)
+        except Refused as bad:
+            raise Refused(bad.number, at) from None
+        start = after + used
+        if start + length > len(unit):
+            raise Refused(7, at)
+    else:
+        start, length = after, len(unit) - after
+    return Obu(header, extension, start, length, after - at + length)
+
+
+def walk(unit, at=0, space=None):
+    """O1, O5, O8, C1. The kept OBUs from `at` on, and the refusal that ends them (R3 to R8) or None; L1 is not asked.
+
+    `space` is how many records the lent list has; None is any number.
+    """
+    kept = []
+    try:
+        while at < len(unit):
+            obu = obu_at(unit, at)
+            if is_kept(obu.header):
+                if len(kept) == space:
+                    raise Refused(8, at)
+                kept.append(obu)
+            at = obu.start + obu.length
+    except Refused as bad:
+        return kept, bad
+    return kept, None
+
+
+def kept_obus(unit, space=None):
+    """C1. The records of a unit, or R2 to R8."""
+    if len(unit) > UNIT_LIMIT:
+        raise Refused(2, 0)
+    kept, bad = walk(unit, 0, space)
+    if bad is not None:
+        raise bad
+    return kept
+
+
+def fill(numbers, records):
+    """C9, P15. Write records into the first numbers of a lent flat list; the rest stays."""
+    at = 0
+    for record in records:
+        numbers[at:at + len(record)] = record
+        at += len(record)
+
+
+def parse_obus(unit, obus):
+    """The list call (C1, C5, O8, O9): fills the flat list `obus`, gives the number of kept OBUs, or R2 to R8."""
+    kept = kept_obus(unit, len(obus) // OBU_NUMBERS)
+    fill(obus, kept)
+    return len(kept)
+
+
+def sent(unit, obu):
+    """O10. A kept OBU on the wire: bit 1 cleared, extension byte if any, payload; no size field."""
+    head = bytes([obu.header & ~2])
+    if has_extension(obu.header):
+        head += bytes([obu.extension])
+    return head + unit[obu.start:obu.start + obu.length]
+
+
+# ---- the plan
+
+def largest_fragment(room):
+    """P12. The largest n that fits into `room` with its length field; 0 where none does."""
+    return max(0, *(min(room - b, 128 ** b - 1) for b in range(1, 6)))
+
+
+def cost_of_previous(packet):
+    """P4. What a further element costs: the previous one's length field, unless there is none or it is paid."""
+    return 0 if packet.count == 0 or packet.count >= 4 else field_size(packet.last)
+
+
+def place(closed, packet, index, size, room):
+    """P5 to P10. OBU `index`, of this size, placed. Closed packets go to `closed`; gives the new current one."""
+    cost = cost_of_previous(packet)
+    if room - packet.size < cost + (2 if packet.count >= 3 else 1):
+        closed.append(packet)                       # P5, a new packet
+        packet, cost = Packet(index, 0, 0, 0, 0), 0
+    first, count, offset, _, used = packet
+    left = room - used - cost
+    has_length = count >= 3                         # from the fourth element on
+    need = size + field_size(size) if has_length else size
+    if need < left:                                 # P6, whole
+        return Packet(first, count + 1, offset, size, used + cost + need)
+    fragment = min(size - 1, largest_fragment(left) if has_length else left)
+    if fragment == 0:
+        closed.append(packet)                       # P8, taken out, the charge too
+    else:                                           # P7, first fragment
+        length = field_size(fragment) if has_length else 0
+        closed.append(Packet(first, count + 1, offset, fragment, used + cost + length + fragment))
+    at = fragment
+    while size - at > room:                         # P9, middle fragments
+        closed.append(Packet(index, 1, at, room, room))
+        at += room
+    return Packet(index, 1, at, size - at, size - at)   # P10, last fragment
+
+
+def plan_of(sizes, mtu):
+    """P1, P3. The plan of kept OBUs of these sizes: none without OBUs or with an mtu below 3."""
+    if not sizes or mtu < 3:
+        return []
+    closed, packet = [], Packet(0, 0, 0, 0, 0)
+    for index, size in enumerate(sizes):
+        packet = place(closed, packet, index, size, mtu - 1)
+    closed.append(packet)
+    return closed
+
+
+def plan_unit(mtu, unit, obus, plan):
+    """The plan call (C2, C5, C6): fills both flat lists, gives the numbers of OBUs and packets, or R1 to R9."""
+    if mtu > MTU_LIMIT:
+        raise Refused(1)
+    count = parse_obus(unit, obus)
+    packets = plan_of(obus[4:OBU_NUMBERS * count:OBU_NUMBERS], mtu)
+    if len(packets) > len(plan) // PLAN_NUMBERS:
+        raise Refused(9)
+    fill(plan, packets)
+    return count, len(packets)
+
+
+# ---- aggregation header
+
+def header_byte(obus, packet, k):
+    """H1 to H5. The aggregation header of packet k, from records."""
+    z = packet.offset > 0
+    begins = packet.offset if packet.count == 1 else 0
+    y = begins + packet.last < obus[packet.first + packet.count - 1].size
+    w = packet.count if packet.count <= 3 else 0
+    n = k == 0 and obu_type(obus[0].header) == 1
+    return 128 * z + 64 * y + 16 * w + 8 * n
+
+
+def records(numbers, kind, width):
+    """O9. The whole records of a flat list; an unfinished last one does not count."""
+    return [kind(*numbers[i:i + width]) for i in range(0, len(numbers) // width * width, width)]
+
+
+def get_aggregation_header(obus, plan, k):
+    """The header call (H6, H7) over flat lists: the byte, or R11."""
+    obus, plan = records(obus, Obu, OBU_NUMBERS), records(plan, Packet, PLAN_NUMBERS)
+    if k >= len(plan) or plan[k].count == 0 or plan[k].first + plan[k].count > len(obus):
+        raise Refused(11)
+    return header_byte(obus, plan[k], k)
+
+
+# ---- payloads
+
+def pieces(unit, obus, packet, memo):
+    """Y2 to Y4. The elements of a packet in order: whether each has its length in front, and its bytes.
+
+    `memo` keeps the wire form of the OBU last used.
+    """
+    found = []
+    for j in range(packet.count):
+        index = packet.first + j
+        if memo.get("index") != index:
+            memo["index"], memo["sent"] = index, sent(unit, obus[index])
+        begins = packet.offset if j == 0 else 0
+        is_last = j == packet.count - 1
+        ends = begins + packet.last if is_last else obus[index].size
+        found.append((not is_last or packet.count >= 4, memo["sent"][begins:ends]))
+    return found
+
+
+def payloads(unit, obus, plan):
+    """Y1, Y4. The payload of every packet, in order."""
+    memo, made = {}, []
+    for k, packet in enumerate(plan):
+        out = bytearray([header_byte(obus, packet, k)])
+        for has_length, part in pieces(unit, obus, packet, memo):
+            if has_length:
+                out += write_field(len(part))
+            out += part
+        made.append(bytes(out))
+    return made
+
+
+def payload(mtu, unit, obus, plan, out):
+    """The payload call (C2, C5 to C7, Y5): fills lists and output, gives their counts, or R1 to R10."""
+    count, packets = plan_unit(mtu, unit, obus, plan)
+    made = b"".join(payloads(unit, records(obus[:OBU_NUMBERS * count], Obu, OBU_NUMBERS),
+                             records(plan[:PLAN_NUMBERS * packets], Packet, PLAN_NUMBERS)))
+    if len(made) > len(out):
+        raise Refused(10)
+    out[:len(made)] = made
+    return count, packets, len(made)
+
+
+# ---- elements of a payload
+
+def check_payload_length(data):
+    """R13, L3."""
+    if not 1 <= len(data) <= PAYLOAD_LIMIT:
+        raise Refused(13)
+
+
+def one_element(data, at):
+    """E4, E6. The element with a length field at `at`: start, length and next cursor, or R16 or R17 at `at`."""
+    try:
+        length, used = read_field(data, at)
+    except Refused:
+        raise Refused(16, at) from None
+    start = at + used
+    if length == 0 or start + length > len(data):
+        raise Refused(17, at)
+    return start, length, start + length
+
+
+def elements(data):
+    """E1 to E6. The elements of a payload of good length, or R15, R16 or R17 with the place in the payload."""
+    if data[0] & 8 and data[0] & 128:
+        raise Refused(15)
+    w = data[0] >> 4 & 3
+    found, at = [], 1
+    while (at < len(data) or not found) if w == 0 else len(found) < w - 1:
+        if at == len(data):
+            raise Refused(17 if w == 0 else 16, at)
+        start, length, at = one_element(data, at)
+        found.append(data[start:start + length])
+    if w > 0:
+        if at == len(data):
+            raise Refused(17, at)
+        found.append(data[at:])
+    return found
+
+
+def element(data, k):
+    """The element call (E7, E8): element k, or the empty part."""
+    try:
+        check_payload_length(data)
+        found = elements(data)
+    except Refused:
+        return b""
+    return found[k] if k < len(found) else b""
+
+
+# ---- the receiver
+
+def wire(obu):
+    """O11, V9. What a finished OBU hands out, or R18. Dropped types are checked too and hand out nothing."""
+    header, after = obu[0], 1
+    if has_extension(header):
+        if len(obu) < 2:
+            raise Refused(18)
+        after = 2
+    head = obu[:after]
+    if has_size(header):
+        try:
+            length, used = read_field(obu, after)
+        except Refused:
+            raise Refused(18) from None
+        after += used
+        if length != len(obu) - after:
+            raise Refused(18)
+    if not is_kept(header):
+        return b""
+    return bytes([header | 2]) + head[1:] + write_field(len(obu) - after) + obu[after:]
+
+
+def receive(state, number, data, store, out):
+    """The receive call (C3, C8, C10, V2 to V16): the new state and the bytes handed out, or R12 to R20."""
+    if state.open > len(store) or state.open > FRAGMENT_LIMIT:
+        raise Refused(12)
+    check_payload_length(data)
+    distance = (number - state.last) % 65_536
+    if state.begun and not 1 <= distance <= 32_767:
+        raise Refused(14)
+    try:
+        parts = elements(data)
+    except Refused as bad:
+        raise Refused(bad.number) from None
+    z, y = data[0] & 128 != 0, data[0] & 64 != 0
+    in_step = state.begun and distance == 1
+    fragment = bytes(store[:state.open]) if in_step and z else b""
+    if z and fragment:
+        parts[0] = fragment + parts[0]              # V6, joined
+    elif z:
+        parts = parts[1:]                           # V6, thrown away
+    left_open = parts.pop() if y and parts else b""
+    handed = b"".join([wire(part) for part in parts])
+    if len(left_open) > len(store) or len(left_open) > FRAGMENT_LIMIT:
+        raise Refused(19)
+    if len(handed) > len(out):
+        raise Refused(20)
+    store[:len(left_open)] = left_open
+    out[:len(handed)] = handed
+    return State(True, number, len(left_open)), len(handed)
+
+
+# ---- the train file
+
+def train_record(number, data):
+    """T2. One record of a train."""
+    return (len(data) + 2).to_bytes(2, "big") + number.to_bytes(2, "big") + data
+
+
+def read_train(file):
+    """T1, T3, C4. The records (number, payload) of a train that stand, and what ends them: None, 21, 22 or 23."""
+    if file[:1] != b"\x01":
+        return [], 21
+    found, at = [], 1
+    while at < len(file):
+        if len(file) - at < 2:
+            return found, 22
+        length = int.from_bytes(file[at:at + 2], "big")
+        if length < 3:
+            return found, 23
+        if len(file) - at - 2 < length:
+            return found, 22
+        found.append((int.from_bytes(file[at + 2:at + 4], "big"), file[at + 4:at + 2 + length]))
+        at += 2 + length
+    return found, None
+
+
+# ---- the programs
+
+def pack(data):
+    """G2 to G4, G6, G7. What `pack` writes, and what it says: (unit, refusal or 'cut'), at most one."""
+    if len(data) < 5 or data[0] != 1:
+        return b"", []
+    mtu, number = int.from_bytes(data[1:3], "big"), int.from_bytes(data[3:5], "big")
+    written, at, index = bytearray([1]), 5, 0
+    while at < len(data):
+        length = int.from_bytes(data[at:at + 4], "big")
+        unit = data[at + 4:at + 4 + length]
+        if len(data) - at < 4 or length > STORE_BYTES or len(unit) < length:
+            return bytes(written), [(index, "cut")]
+        obus, plan, out = [0] * (5 * LIST_RECORDS), [0] * (5 * LIST_RECORDS), bytearray(OUTPUT_BYTES)
+        try:
+            _, packets, _ = payload(mtu, unit, obus, plan, out)
+        except Refused as bad:
+            return bytes(written), [(index, bad.number)]
+        begins = 0
+        for packet in records(plan[:5 * packets], Packet, PLAN_NUMBERS):
+            ends = begins + packet.size + 1
+            written += train_record(number, bytes(out[begins:ends]))
+            begins, number = ends, (number + 1) % 65_536
+        at, index = at + 4 + length, index + 1
+    return bytes(written), []
+
+
+def unpack(file):
+    """G5 to G7. What `unpack` writes, and what it says: (record, refusal), each packet passed over and the stop."""
+    found, stop = read_train(file)
+    state, store, written, said = FRESH, bytearray(STORE_BYTES), bytearray(), []
+    for index, (number, data) in enumerate(found):
+        out = bytearray(OUTPUT_BYTES)
+        try:
+            state, count = receive(state, number, data, store, out)
+            written += out[:count]
+        except Refused as bad:
+            said.append((index, bad.number))
+    if stop is not None:
+        said.append((len(found), stop))
+    return bytes(written), said
+
+
+def planlist(data):
+    """G8 to G11. What `planlist` prints."""
+    length = int.from_bytes(data[3:7], "big")
+    if len(data) < 7 or data[0] != 1 or length > STORE_BYTES or len(data) != 7 + length:
+        return "bad input\n"
+    obus, plan = [0] * (5 * LIST_RECORDS), [0] * (5 * LIST_RECORDS)
+    try:
+        count, packets = plan_unit(int.from_bytes(data[1:3], "big"), data[7:], obus, plan)
+    except Refused as bad:
+        return "refused %d %d\n" % (bad.number, bad.offset)
+    lines = ["obus %d" % count, "packets %d" % packets]
+    for k in range(packets):
+        row = plan[5 * k:5 * k + 5]
+        lines.append("%d %d %d %d %d %d %02X" % (k, *row, get_aggregation_header(obus, plan, k)))
+    return "\n".join(lines) + "\n"
+
+
+def record_text(obu):
+    """An OBU record as `vectors` prints it."""
+    return "%d,%d,%d,%d,%d" % obu
+
+
+def vectors_line(numbers, unit):
+    """What `vectors` answers to one case: a lent OBU list of this many numbers, and a unit."""
+    try:
+        kept = kept_obus(unit, numbers // OBU_NUMBERS)
+    except Refused as bad:
+        return "refused %d %d" % (bad.number, bad.offset)
+    return "obus %d %s" % (len(kept), ";".join(map(record_text, kept))) if kept else "obus 0"
+
+
+def vectors(text):
+    """What `vectors` prints."""
+    lines = []
+    for line in text.splitlines():
+        numbers, unit = line.split(" ")
+        lines.append(vectors_line(int(numbers), b"" if unit == "-" else bytes.fromhex(unit)) + "\n")
+    return "".join(lines)
+
+
+# ---- self-test
+
+def answer(call, *args):
+    """A call's answer, or its refusal as (number, offset) in a list."""
+    try:
+        return call(*args)
+    except Refused as bad:
+        return [bad.number, bad.offset]
+
+
+def shown(mtu, unit):
+    """The payloads of a unit as the rules' table shows them, or its refusal."""
+    obus, plan, out = [0] * 4096, [0] * 4096, bytearray(4096)
+    try:
+        _, packets, _ = payload(mtu, bytes.fromhex(unit), obus, plan, out)
+    except Refused as bad:
+        return "%d at %d" % (bad.number, bad.offset)
+    texts, begins = [], 0
+    for k in range(packets):
+        ends = begins + plan[5 * k + 4] + 1
+        texts.append(out[begins:ends].hex(" ").upper())
+        begins = ends
+    return " / ".join(texts)
+
+
+LONG = "12 00 0A 03 11 22 33 32 05 A1 A2 A3 A4 A5"
+UNIT_ROWS = [  # unit, mtu, payloads or refusal
+    ("", 1200, ""),
+    ("0A 01 7F", 2, ""),
+    ("0A 01 7F", 3, "58 08 / 90 7F"),
+    ("0A 01 7F", 4, "18 08 7F"),
+    ("0A 01 7F 32 00", 5, "18 08 7F / 10 30"),
+    (LONG, 20, "28 04 08 11 22 33 30 A1 A2 A3 A4 A5"),
+    (LONG, 3, "58 08 11 / 90 22 33 / 50 30 A1 / D0 A2 A3 / 90 A4 A5"),
+    ("32 00" * 3, 20, "30 01 30 01 30 30"),
+    ("32 00" * 4, 20, "00 01 30 01 30 01 30 01 30"),
+    ("34 08", 3, "50 34 / 90 08"),
+    ("36 08 01 C1", 3, "50 34 08 / 90 C1"),
+    ("36", 20, "3 at 0"),
+    ("32", 20, "4 at 0"),
+    ("32 FF", 20, "5 at 0"),
+    ("32 02 A1", 20, "7 at 0"),
+    ("32 80 80 80 80 10", 20, "6 at 0"),
+    ("32" + "80" * 7 + "00", 20, "10 30"),
+    # beyond the table
+    ("36 08", 20, "4 at 0"),
+    ("32 80", 20, "5 at 0"),
+    ("32" + "80" * 8, 20, "6 at 0"),
+    ("32" + "80" * 8 + "00", 20, "6 at 0"),
+    ("32 00" * 3 + "32 06" + "A1" * 6, 8, "30 01 30 01 30 30 / 50 30 A1 A1 A1 A1 A1 / 90 A1"),
+    ("B3 01 7F", 20, "10 B1 7F"),
+    ("0A 01 7F", 65_534, "1 at 0"),
+]
+FRAGMENTS = {0: 0, 1: 0, 2: 1, 128: 127, 129: 127, 130: 128, 16_385: 16_383, 16_386: 16_383, 16_387: 16_384}
+ELEMENT_ROWS = [  # payload, its elements or the refusal with its place
+    ("00", [17, 1]), ("10", [17, 1]), ("20", [16, 1]), ("30", [16, 1]), ("20 01 30", [17, 3]), ("30 01 30", [16, 3]),
+    ("00 01 30", ["30"]), ("20 01 30 30", ["30", "30"]), ("00 00", [17, 1]), ("20 00 30", [17, 1]),
+    ("00 02 30", [17, 1]), ("00 80", [16, 1]), ("00 81 00 30", ["30"]), ("88 01 30", [15, 0]), ("08 01 30", ["30"]),
+    ("00 80 80 80 80 10 30", [16, 1]), ("00 01 30 FF", [16, 3]), ("00 01 30 02 30", [17, 3]), ("17 30", ["30"]),
+    ("30 01 30 02 31 32 33", ["30", "3132", "33"]), ("00" + " 01 30" * 5, ["30"] * 5),
+]
+WIRE_ROWS = [  # a finished OBU, what it hands out or 18
+    ("30", "32 00"), ("30 A1", "32 01 A1"), ("32 00", "32 00"), ("32 01 A1", "32 01 A1"), ("32 81 00 A1", "32 01 A1"),
+    ("34 08", "36 08 00"), ("36 08 00", "36 08 00"), ("B1 A1", "B3 01 A1"), ("10", ""), ("12 00", ""), ("40 01", ""),
+    ("78 01", ""), ("12", None), ("34", None), ("14", None), ("36 08", None), ("32", None), ("32 80", None),
+    ("32 00 A1", None), ("32 02 A1", None), ("32" + "80" * 8 + "00", None), ("30" + "A1" * 128, "32 80 01" + "A1" * 128),
+]
+
+
+class Test:
+    """Counts rows and tells of those that do not hold."""
+
+    def __init__(self):
+        self.rows = self.failed = 0
+
+    def same(self, what, got, want):
+        self.rows += 1
+        if got != want:
+            self.failed += 1
+            print("DOES NOT HOLD: %s: got %r, want %r" % (what, got, want))
+
+
+def test_fields(t):
+    for field, want in [
+        ("", [5, 0]), ("00", (0, 1)), ("7F", (127, 1)), ("80", [5, 0]), ("80 01", (128, 2)), ("AC 02", (300, 2)),
+        ("80" * 7, [5, 0]), ("80" * 8, [6, 0]), ("80" * 8 + "00", [6, 0]), ("80" * 7 + "00", (0, 8)),
+        ("FF FF FF FF 0F", (FIELD_VALUE, 5)), ("80 80 80 80 10", [6, 0]), ("FF FF FF FF 8F 80 80 00", (FIELD_VALUE, 8)),
+        ("82 D8 02", (44_034, 3)),
+    ]:
+        t.same("size field %s" % field, answer(read_field, bytes.fromhex(field)), want)
+    for value in [0, 1, 127, 128, 300, 16_383, 16_384, 2_097_151, 2_097_152, UNIT_LIMIT, FIELD_VALUE]:
+        field = write_field(value)
+        t.same("written %d" % value, read_field(field + b"\xFF"), (value, field_size(value)))
+    t.same("300", write_field(300).hex(), "ac02")
+
+
+def test_list(t):
+    unit = bytes.fromhex("32 00 32 00 32 02 A1")
+    for numbers, want in [(0, [8, 0]), (4, [8, 0]), (5, [8, 2]), (9, [8, 2]), (10, [7, 4]), (15, [7, 4])]:
+        t.same("lent %d" % numbers, answer(parse_obus, unit, [9] * numbers), want)
+    obus = [9] * 12
+    t.same("answer", parse_obus(bytes.fromhex("12 00 36 08 01 C1"), obus), 1)
+    t.same("list, rest untouched", obus, [0x36, 8, 5, 1, 3] + [9] * 7)
+    t.same("start of an empty payload", kept_obus(bytes.fromhex("36 08 80 00")), [Obu(0x36, 8, 4, 0, 2)])
+    t.same("at the limit", kept_obus(b"\x30" + bytes(UNIT_LIMIT - 1)), [Obu(0x30, 0, 1, UNIT_LIMIT - 1, UNIT_LIMIT)])
+    t.same("over the limit", answer(kept_obus, b"\x36" * (UNIT_LIMIT + 1)), [2, 0])
+    t.same("vectors", vectors("5 32003200\n0 -\n5 3200\n0 12007A00\n"),
+           "refused 8 2\nobus 0\nobus 1 50,0,2,0,1\nobus 0\n")
+
+
+def test_plan(t):
+    for unit, mtu, want in UNIT_ROWS:
+        t.same("unit %s, mtu %d" % (unit, mtu), shown(mtu, unit), want)
+    for room, want in FRAGMENTS.items():
+        t.same("largest fragment for room %d" % room, largest_fragment(room), want)
+    fits = 0
+    for room in range(2, 17_000):
+        while fits + 1 + field_size(fits + 1) <= room:
+            fits += 1
+        t.same("largest fragment for room %d by counting" % room, largest_fragment(room), fits)
+    unit = b"\x32\x7F" + bytes(127) + b"\x30\x00"
+    t.same("mtu 132", [len(p) for p in payloads(unit, kept_obus(unit), plan_of([128, 2], 132))], [132, 2])
+    unit = bytes.fromhex("32 01 A1") * 349_525 + b"\x30"
+    t.same("most records", (len(unit), len(plan_of([o.size for o in kept_obus(unit)], 3))), (UNIT_LIMIT, 699_051))
+
+
+def test_law(t):
+    """P13 on random units."""
+    rng = random.Random(1)
+    for _ in range(3000):
+        unit = b"".join(b"\x32" + write_field(n) + bytes(n) for n in
+                        [rng.choice([0, 0, 1, 2, 3, 9, rng.randrange(150)]) for _ in range(rng.randrange(1, 9))])
+        mtu = rng.choice([3, 4, 5, 6, 7, 8, rng.randrange(3, 200)])
+        obus = kept_obus(unit)
+        plan = plan_of([o.size for o in obus], mtu)
+        made = payloads(unit, obus, plan)
+        lengths = all(2 <= len(p) <= mtu and len(p) == packet.size + 1 for p, packet in zip(made, plan))
+        joined = b"".join(b"".join(elements(p)) for p in made) == b"".join(sent(unit, o) for o in obus)
+        t.same("law for %s, mtu %d" % (unit.hex(), mtu), (lengths, joined), (True, True))
+
+
+def test_left(t):
+    """C5 to C7, C9: what each refusal of the payload call leaves in the lent slices."""
+    unit = bytes.fromhex("0A 01 7F 32 00")
+    full_list, full_plan = [0x0A, 0, 2, 1, 2, 0x32, 0, 5, 0, 1], [0, 1, 0, 2, 2, 1, 1, 0, 1, 1]
+    for mtu, list_numbers, plan_numbers, out_bytes, want in [
+        (65_534, 10, 10, 5, ([1, 0], False, False, False)), (5, 9, 10, 5, ([8, 3], False, False, False)),
+        (5, 10, 9, 5, ([9, 0], True, False, False)), (5, 10, 10, 4, ([10, 0], True, True, False)),
+        (5, 10, 10, 5, ((2, 2, 5), True, True, True)),
+    ]:
+        obus, plan, out = [7] * list_numbers, [7] * plan_numbers, bytearray([7] * out_bytes)
+        got = answer(payload, mtu, unit, obus, plan, out)
+        t.same("left by %r" % (want[0],), (got, obus, plan, out), (
+            want[0], full_list if want[1] else [7] * list_numbers, full_plan if want[2] else [7] * plan_numbers,
+            bytearray.fromhex("18 08 7F 10 30") if want[3] else bytearray([7] * out_bytes)))
+
+
+def test_header(t):
+    obus = [0x0A, 0, 2, 1, 2, 0x32, 0, 5, 0, 1]
+    for plan, k, want in [
+        ([0, 1, 0, 2, 2], 0, 0x18), ([0, 1, 0, 2, 2], 1, [11, 0]), ([0, 0, 0, 2, 2], 0, [11, 0]),
+        ([1, 2, 0, 1, 1], 0, [11, 0]), ([0, 3, 0, 1, 1], 0, [11, 0]), ([0, 1, 0, 2], 0, [11, 0]),
+        ([1, 1, 0, 1, 1], 0, 0x18), ([0, 1, 1, 0, 1], 0, 0xD8), ([0, 2, 1, 1, 9], 0, 0xA8), ([0, 2, 1, 0, 9], 0, 0xE8),
+        ([0, 1, 4_294_967_295, 4_294_967_295, 0], 0, 0x98), ([4_294_967_295, 4_294_967_295, 0, 0, 0], 0, [11, 0]),
+        ([0, 1, 0, 2, 2, 1, 1, 0, 1, 1], 1, 0x10),
+    ]:
+        t.same("header of %d in %r" % (k, plan), answer(get_aggregation_header, obus, plan, k), want)
+    t.same("an unfinished OBU record", answer(get_aggregation_header, obus[:9], [1, 1, 0, 1, 1], 0), [11, 0])
+    t.same("type above a byte", get_aggregation_header([0xF0A, 0, 0, 1, 2], [0, 1, 0, 2, 2], 0), 0x18)
+    four = [0x32, 0, 0, 0, 1] * 4
+    t.same("W of four", get_aggregation_header(four, [0, 4, 0, 1, 8], 0), 0)
+
+
+def test_elements(t):
+    for data, want in ELEMENT_ROWS:
+        got = answer(elements, bytes.fromhex(data))
+        t.same("elements of %s" % data, got if got and type(got[0]) is int else [p.hex() for p in got], want)
+    t.same("element 1", element(bytes.fromhex("30 01 30 02 31 32 33"), 1), b"12")
+    t.same("no element 3", element(bytes.fromhex("30 01 30 02 31 32 33"), 3), b"")
+    t.same("a later element is bad", element(bytes.fromhex("00 01 30 02 30"), 0), b"")
+    t.same("empty payload", element(b"", 0), b"")
+    t.same("payload at its limit", len(element(b"\x10" + bytes(PAYLOAD_LIMIT - 1), 0)), PAYLOAD_LIMIT - 1)
+    t.same("payload over its limit", element(b"\x10" + bytes(PAYLOAD_LIMIT), 0), b"")
+
+
+def test_receiver(t):
+    for obu, want in WIRE_ROWS:
+        t.same("finished %s" % obu, answer(wire, bytes.fromhex(obu)), [18, 0] if want is None else bytes.fromhex(want))
+    took = State(True, 41, 2)
+    for what, state, number, data, lent, want in [
+        ("12 store", State(True, 0, 5), 1, "", (4, 9), 12),
+        ("12 limit", State(True, 0, FRAGMENT_LIMIT + 1), 1, "", (FRAGMENT_LIMIT + 2, 9), 12),
+        ("13 empty", FRESH, 0, "", (4, 9), 13),
+        ("13 before 14", took, 41, "", (4, 9), 13),
+        ("13 over", FRESH, 0, "10" + "30" * PAYLOAD_LIMIT, (4, 9), 13),
+        ("14 same", took, 41, "88", (4, 9), 14),
+        ("14 half way", took, 41 + 32_768, "10 30", (4, 9), 14),
+        ("ahead", took, 41 + 32_767, "10 30", (4, 9), ("3200", State(True, 41 + 32_767, 0), "A1A2A3A4")),
+        ("15", took, 42, "88", (4, 9), 15),
+        ("16", took, 42, "20", (4, 9), 16),
+        ("17", took, 42, "10", (4, 9), 17),
+        ("18", FRESH, 0, "10 12", (4, 9), 18),
+        ("18 before 19", FRESH, 0, "60 01 12 30 31 32 33 34", (4, 9), 18),
+        ("19 store", FRESH, 0, "50 30 31 32 33 34", (4, 0), 19),
+        ("19 before 20", FRESH, 0, "60 01 30 30 31 32 33 34", (4, 0), 19),
+        ("20", FRESH, 0, "10 30", (4, 1), 20),
+        ("thrown away, unchecked", FRESH, 0, "90 34", (4, 9), ("", State(True, 0, 0), "A1A2A3A4")),
+        ("thrown away, not kept open", FRESH, 7, "D0 34", (4, 9), ("", State(True, 7, 0), "A1A2A3A4")),
+        ("left open", FRESH, 7, "50 30", (4, 9), ("", State(True, 7, 1), "30A2A3A4")),
+        ("dropped type left open", FRESH, 7, "50 12", (4, 9), ("", State(True, 7, 1), "12A2A3A4")),
+        ("joined", took, 42, "90 30", (4, 9), ("A302A230", State(True, 42, 0), "A1A2A3A4")),
+        ("joined and left open", took, 42, "D0 30", (4, 9), ("", State(True, 42, 3), "A1A230A4")),
+        ("not in step", took, 43, "90 30", (4, 9), ("", State(True, 43, 0), "A1A2A3A4")),
+        ("not in step, left open", took, 43, "E0 01 30 32", (4, 9), ("", State(True, 43, 1), "32A2A3A4")),
+        ("Z clear", took, 42, "10 30", (4, 9), ("3200", State(True, 42, 0), "A1A2A3A4")),
+        ("number wraps", State(True, 65_535, 2), 0, "90 30", (4, 9), ("A302A230", State(True, 0, 0), "A1A2A3A4")),
+        ("not begun", State(False, 41, 2), 42, "90 30", (4, 9), ("", State(True, 42, 0), "A1A2A3A4")),
+        ("reserved bits", FRESH, 0, "17 B1", (4, 9), ("B300", State(True, 0, 0), "A1A2A3A4")),
+    ]:
+        store, out = bytearray(b"\xA1\xA2\xA3\xA4" + bytes(lent[0] - 4)), bytearray(b"\xEE" * lent[1])
+        before = bytes(store), bytes(out)
+        got = answer(receive, state, number, bytes.fromhex(data), store, out)
+        if type(want) is int:
+            t.same("receiver %s" % what, (got, bytes(store), bytes(out)), ([want, 0], *before))
+        else:
+            handed = bytes.fromhex(want[0])
+            t.same("receiver %s" % what, (got, store.hex().upper(), bytes(out)),
+                   ((want[1], len(handed)), want[2], handed + b"\xEE" * (lent[1] - len(handed))))
+    t.same("open fragment at its limit", receive(State(True, 0, FRAGMENT_LIMIT - 1), 1, b"\xD0\x30",
+                                                 bytearray(FRAGMENT_LIMIT + 1), bytearray()), (State(True, 1, FRAGMENT_LIMIT), 0))
+    store, out = bytearray(9), bytearray(9)
+    state, _ = receive(FRESH, 41, bytes.fromhex("50 30 A1"), store, out)
+    _, count = receive(state, 42, bytes.fromhex("90 B2"), store, out)
+    t.same("41 of one train, 42 of another", out[:count].hex(), "3202a1b2")
+    t.same("19 limit", answer(receive, State(True, 0, FRAGMENT_LIMIT), 1, b"\xD0\x30", bytearray(FRAGMENT_LIMIT + 1),
+                              bytearray()), [19, 0])
+
+
+def test_delivery(t):
+    """D3 on random runs: what comes out is the OBUs all of whose packets are timely."""
+    rng = random.Random(3)
+    for run in range(400):
+        number, packets, obus, largest, mtus = rng.randrange(65_536), [], [], 0, []
+        for _ in range(rng.randrange(1, 6)):
+            unit = b"".join(bytes([rng.choice([0x0A, 0x12, 0x32, 0xB3, 0x7A])]) + write_field(n) + bytes([run % 256]) * n
+                            for n in [rng.choice([0, 1, 2, 5, 30, 140]) for _ in range(rng.randrange(7))])
+            mtu = rng.choice([3, 4, 5, 8, 20, 140])
+            kept = kept_obus(unit)
+            plan = plan_of([o.size for o in kept], mtu)
+            for i, obu in enumerate(kept):
+                theirs = [len(packets) + k for k, p in enumerate(plan) if p.first <= i < p.first + p.count]
+                obus.append((theirs, wire(sent(unit, obu))))
+                largest = max(largest, obu.size)
+            packets += payloads(unit, kept, plan)
+            mtus.append(mtu)
+        arrivals = [k for k in range(len(packets)) if rng.random() > 0.1]
+        for _ in range(len(arrivals) // 8):
+            arrivals.insert(rng.randrange(len(arrivals)), rng.choice(arrivals))
+        timely = {k for k in arrivals if all(j <= k for j in arrivals[:arrivals.index(k)])}
+        state, store, came, refused = FRESH, bytearray(largest), bytearray(), 0
+        for k in arrivals:
+            out = bytearray(largest + 4 * max(mtus))
+            try:
+                state, count = receive(state, (number + k) % 65_536, packets[k], store, out)
+                came += out[:count]
+            except Refused as bad:
+                refused += 1
+                t.same("run %d, only 14" % run, bad.number, 14)
+        t.same("run %d" % run, bytes(came), b"".join(w for theirs, w in obus if timely.issuperset(theirs)))
+        t.same("run %d, refusals" % run, refused, len(arrivals) - len(timely))
+
+
+def test_programs(t):
+    head = bytes.fromhex("01 00 05 00 00 00 05")
+    example = head + bytes.fromhex("0A 01 7F 32 00")
+    t.same("planlist", planlist(example), "obus 2\npackets 2\n0 0 1 0 2 2 18\n1 1 1 0 1 1 10\n")
+    for what, data in [("empty", b""), ("head cut", head[:6]), ("less", example[:-1]), ("more", example + b"\0"),
+                       ("version", b"\x02" + example[1:]), ("store", b"\x01\x00\x05\x00\x00\x80\x01" + bytes(32_769))]:
+        t.same("planlist, %s" % what, planlist(data), "bad input\n")
+    t.same("planlist, no unit", planlist(bytes.fromhex("01 00 05 00 00 00 00")), "obus 0\npackets 0\n")
+    t.same("planlist, refused", planlist(bytes.fromhex("01 00 05 00 00 00 03 32 02 A1")), "refused 7 0\n")
+    t.same("planlist, mtu", planlist(b"\x01\xFF\xFE" + example[3:]), "refused 1 0\n")
+    t.same("planlist, full store", planlist(b"\x01\xFF\xFD\x00\x00\x80\x00" + b"\x30" + bytes(32_767)),
+           "obus 1\npackets 1\n0 0 1 0 32768 32768 10\n")
+    t.same("planlist, 512 OBUs", planlist(b"\x01\xFF\xFD\x00\x00\x04\x00" + b"\x32\x00" * 512),
+           "obus 512\npackets 1\n0 0 512 0 1 1024 00\n")
+    t.same("planlist, 513 OBUs", planlist(b"\x01\xFF\xFD\x00\x00\x04\x02" + b"\x32\x00" * 513), "refused 8 1024\n")
+    t.same("planlist, 513 packets", planlist(b"\x01\x00\x03\x00\x00\x04\x02" + b"\x30" + bytes(1025)), "refused 9 0\n")
+    units = bytes.fromhex("00 00 00 05 0A 01 7F 32 00") + bytes(4) + bytes.fromhex("00 00 00 01 30")
+    train = bytes.fromhex("01 0005FFFF18087F 000400001030 000400011030")
+    t.same("pack", pack(bytes.fromhex("01 00 05 FF FF") + units), (train, []))
+    t.same("pack, head alone", pack(bytes.fromhex("01 00 05 FF FF")), (b"\x01", []))
+    t.same("pack, head cut", pack(bytes.fromhex("01 00 05 FF")), (b"", []))
+    t.same("pack, version", pack(bytes.fromhex("02 00 05 FF FF")), (b"", []))
+    t.same("pack, cut", pack(bytes.fromhex("01 00 05 FF FF") + units[:-1]), (train[:-6], [(2, "cut")]))
+    t.same("pack, length cut", pack(bytes.fromhex("01 00 05 FF FF") + units[:-2]), (train[:-6], [(2, "cut")]))
+    t.same("pack, store", pack(bytes.fromhex("01 FF FD 00 00 00 00 80 01") + b"\x30" * 32_769), (b"\x01", [(0, "cut")]))
+    t.same("pack, refused", pack(bytes.fromhex("01 00 05 00 00 00 00 00 01 32") + units), (b"\x01", [(0, 4)]))
+    t.same("pack, mtu", pack(bytes.fromhex("01 FF FE 00 00") + units), (b"\x01", [(0, 1)]))
+    t.same("unpack", unpack(train), (bytes.fromhex("0A 01 7F 32 00 32 00"), []))
+    for what, file, want in [
+        ("empty", "", (b"", [(0, 21)])), ("version", "02", (b"", [(0, 21)])), ("nothing", "01", (b"", [])),
+        ("length cut", "01 00", (b"", [(0, 22)])), ("record cut", "01 0004 0000 10", (b"", [(0, 22)])),
+        ("length 2", "01 0002", (b"", [(0, 23)])), ("length 0 alone", "01 0000", (b"", [(0, 23)])),
+        ("shortest record", "01 0003 0000 10", (b"", [(0, 17)])),
+        ("a repeat passed over", "01 00040007 1030 00040007 1030 00040008 1030", (b"\x32\x00" * 2, [(1, 14)])),
+        ("before the stop", "01 00040007 1030 0001", (b"\x32\x00", [(1, 23)])),
+    ]:
+        t.same("unpack, %s" % what, unpack(bytes.fromhex(file)), want)
+    two = bytes.fromhex("00 00 00 28") + b"\x32\x26" + bytes(38) + bytes.fromhex("00 00 00 03 36 08 00")
+    t.same("unpack after pack", unpack(pack(bytes.fromhex("01 00 09 FF FE") + two)[0]),
+           (b"\x32\x26" + bytes(38) + bytes.fromhex("36 08 00"), []))
+
+
+def self_test():
+    t = Test()
+    for test in (test_fields, test_list, test_plan, test_law, test_left, test_header, test_elements, test_receiver,
+                 test_delivery, test_programs):
+        test(t)
+    print("%d rows, %d do not hold" % (t.rows, t.failed))
+    return 1 if t.failed else 0
+
+
+def main(words):
+    if not words:
+        return self_test()
+    if words in (["pack"], ["unpack"]):
+        written, said = (pack if words == ["pack"] else unpack)(sys.stdin.buffer.read())
+        sys.stdout.buffer.write(written)
+        for index, what in said:
+            print("%s %d: %s" % ("unit" if words == ["pack"] else "record", index, what), file=sys.stderr)
+        return 0
+    if words == ["planlist"]:
+        sys.stdout.write(planlist(sys.stdin.buffer.read()))
+        return 0
+    if words == ["vectors"]:
+        sys.stdout.write(vectors(sys.stdin.read()))
+        return 0
+    print("usage: rules.py [pack|unpack|planlist|vectors]", file=sys.stderr)
+    return 2
+
+
+if __name__ == "__main__":
+    sys.exit(main(sys.argv[1:]))

@@ -1,0 +1,5 @@
+-- Laws that the crates above share.
+pub mod Refusals
+pub mod Tests
+pub mod Bits
+pub mod Lists

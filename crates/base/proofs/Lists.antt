@@ -1,0 +1,82 @@
+-- Laws of lists that the library has not. Assumes nothing.
+use mathlib.Core.Path.{_≡_, refl, sym, ap, _∙_}
+use Prim.Native.Nat.{ℕ, zero, suc, _+_, _-_, _*_, _≤_}
+use native.Mathlib.Nat.{zero-add, suc-add, zero-mul, suc-mul}
+use native.Mathlib.Omega.{arith}
+use mathlib.Core.Bool.{Bool, true, false, cond}
+use mathlib.Core.List.{List, [], _∷_, _++_, append-nil, append-assoc, flatMap}
+use lib.ListN.{length, take, drop, length-append, length-drop}
+use lib.Seq.{take-nil, take-all, take-at, drop-append-add, drop-drop, sets, sets-eq}
+use Rattle.base.specs.Lists.{replaced, front, keep, All}
+use Rattle.base.proofs.Tests.{by-cond}
+
+module _ {A : Type 0} where
+  -- the part that a call is lent from `at` to the end
+  pub part-from : (l : List A) (at : ℕ) → at ≤ length l → take (length l - at) (drop at l) ≡ drop at l
+  part-from l at h = take-all (length l - at) (drop at l) (simp length-drop (omega arith))
+
+  pub take-drop : (m n : ℕ) (l : List A) → take m (drop n l) ≡ drop n (take (n + m) l)
+  take-drop m zero l = rw (zero-add m)
+  take-drop m (suc n) [] = rw (take-nil m, suc-add n m)
+  take-drop m (suc n) (a ∷ l) = rw (suc-add n m) (take-drop m n l)
+
+  pub keep-yes : (test : A → Bool) (a : A) (l : List A) → test a ≡ true → keep test (a ∷ l) ≡ a ∷ keep test l
+  unfolding keep
+  keep-yes test a l e = rw e
+
+  pub keep-no : (test : A → Bool) (a : A) (l : List A) → test a ≡ false → keep test (a ∷ l) ≡ keep test l
+  unfolding keep
+  keep-no test a l e = rw e
+
+  pub keep-none : (test : A → Bool) → keep test [] ≡ []
+  unfolding keep
+  keep-none test = refl
+
+  pub keep-append : (test : A → Bool) (l m : List A) → keep test (l ++ m) ≡ keep test l ++ keep test m
+  unfolding keep
+  keep-append test [] m = refl
+  keep-append test (a ∷ l) m = go (test a) (keep-append test l m)
+    where
+      go : (t : Bool) → keep test (l ++ m) ≡ keep test l ++ keep test m
+          → cond t (a ∷ keep test (l ++ m)) (keep test (l ++ m)) ≡ cond t (a ∷ keep test l) (keep test l) ++ keep test m
+      go true ih = ap (λ (r : List A). a ∷ r) ih
+      go false ih = ih
+
+  -- more new elements, right after those that stand first already
+  pub front-more : (a b l : List A) → replaced (front a l) (length a) b ≡ front (a ++ b) l
+  front-more a b l =
+      rw (take-at a (drop (length a) l) (length a) refl, drop-append-add a (drop (length a) l) (length b), drop-drop (length b) (length a) l, length-append a b)
+
+  -- the same by stores, where the list has room for them
+  pub front-sets : (a b l : List A) (at : ℕ) → length a ≡ at → at + length b ≤ length l → sets (front a l) at b ≡ front (a ++ b) l
+  front-sets a b l at e h =
+      let k : length (front a l) ≡ length l = length-append a (drop (length a) l) ∙ omega (arith, length-drop (length a) l) in
+      sets-eq b (front a l) at (omega arith) ∙ ap (λ (n : ℕ). replaced (front a l) n b) (sym e) ∙ front-more a b l
+
+  -- ---- each of a list
+
+  pub all-map : {P Q : A → Type 0} → ((a : A) → P a → Q a) → (l : List A) → All P l → All Q l
+  all-map f [] h = tt
+  all-map f (a ∷ l) h = (f a (h .0), all-map f l (h .1))
+
+  pub all-keep : (P : A → Type 0) (test : A → Bool) (l : List A) → All P l → All P (keep test l)
+  unfolding keep
+  all-keep P test [] h = tt
+  all-keep P test (a ∷ l) h =
+      by-cond (All P) (test a) (a ∷ keep test l) (keep test l) (λ t. (h .0, all-keep P test l (h .1))) (λ t. all-keep P test l (h .1))
+
+module _ {A B : Type 0} (f : A → List B) where
+  pub flatMap-append : (l m : List A) → flatMap f (l ++ m) ≡ flatMap f l ++ flatMap f m
+  unfolding flatMap
+  flatMap-append [] m = refl
+  flatMap-append (a ∷ l) m = ap (λ (r : List B). f a ++ r) (flatMap-append l m) ∙ sym (append-assoc (f a) (flatMap f l) (flatMap f m))
+
+  pub flatMap-one : (a : A) → flatMap f (a ∷ []) ≡ f a
+  unfolding flatMap
+  flatMap-one a = append-nil (f a)
+
+  -- where each gives as many
+  pub flatMap-length : (n : ℕ) → ((a : A) → length (f a) ≡ n) → (l : List A) → length (flatMap f l) ≡ length l * n
+  unfolding flatMap
+  flatMap-length n each [] = rw (zero-mul n)
+  flatMap-length n each (a ∷ l) = length-append (f a) (flatMap f l) ∙ rw (each a, flatMap-length n each l, suc-mul (length l) n) (omega arith)

@@ -1,0 +1,12 @@
+-- A fact of a choice, from what it is in either case. Assumes nothing.
+use mathlib.Core.Path.{_≡_, refl}
+use mathlib.Core.Bool.{Bool, true, false, cond}
+
+pub by-cond : {A : Type 0} (P : A → Type 0) (t : Bool) (a b : A) → (t ≡ true → P a) → (t ≡ false → P b) → P (cond t a b)
+by-cond P true a b f g = f refl
+by-cond P false a b f g = g refl
+
+-- by what a test says, with the test's equation in hand
+pub split-on : {P : Type 0} (t : Bool) → (t ≡ true → P) → (t ≡ false → P) → P
+split-on true f g = f refl
+split-on false f g = g refl

@@ -1,0 +1,77 @@
+use native.Mathlib.Omega.{arith}
+use native.Mathlib.Numerals.{add-one, add-two, add-three, add-four}
+use lib.ListN.{length-set}
+use borrow.Author.Needs.{needs}
+use Rattle.base.proofs.put_five.Statement.{statement}
+use Rattle.base.proofs.put_five.Tie as tie
+use Rattle.base.proofs.put_five.Reads as reads
+use Rattle.base.proofs.put_five.Lts as lts
+
+mul-list : tie.Need-mul-list
+mul-list c = search needs
+
+slice-write-list : tie.Need-slice-write-list
+slice-write-list c = search needs
+
+add-list : tie.Need-add-list
+add-list c = search needs
+
+mul-list-2 : tie.Need-mul-list-2
+mul-list-2 c = search needs
+
+slice-write-list-2 : tie.Need-slice-write-list-2
+slice-write-list-2 c = simp length-set (omega arith)
+
+add-list-2 : tie.Need-add-list-2
+add-list-2 c = search needs
+
+mul-list-3 : tie.Need-mul-list-3
+mul-list-3 c = search needs
+
+slice-write-list-3 : tie.Need-slice-write-list-3
+slice-write-list-3 c = simp length-set (omega arith)
+
+add-list-3 : tie.Need-add-list-3
+add-list-3 c = search needs
+
+mul-list-4 : tie.Need-mul-list-4
+mul-list-4 c = search needs
+
+slice-write-list-4 : tie.Need-slice-write-list-4
+slice-write-list-4 c = simp length-set (omega arith)
+
+add-list-4 : tie.Need-add-list-4
+add-list-4 c = search needs
+
+mul-list-5 : tie.Need-mul-list-5
+mul-list-5 c = search needs
+
+slice-write-list-5 : tie.Need-slice-write-list-5
+slice-write-list-5 c = simp length-set (omega arith)
+
+same-length : tie.Need-same-length
+same-length c = search needs
+
+returns : tie.Need-returns
+returns c = let at = c .args .at in rw (add-one at, add-two at, add-three at, add-four at)
+
+pub put-five-spec : {M : Type 1} → statement M
+put-five-spec =
+    tie.close
+    (tie.spec
+    mul-list
+    slice-write-list
+    add-list
+    mul-list-2
+    slice-write-list-2
+    add-list-2
+    mul-list-3
+    slice-write-list-3
+    add-list-3
+    mul-list-4
+    slice-write-list-4
+    add-list-4
+    mul-list-5
+    slice-write-list-5
+    same-length
+    returns)

@@ -1,0 +1,14 @@
+-- What a call answers, and what it leaves in a lent list.
+use Prim.Native.Nat.{ℕ}
+use mathlib.Core.List.{List}
+use Rattle.base.specs.Lists.{front}
+
+-- what was asked for, or a refusal: its number, and the offset that it carries (W14)
+pub data Answer (A : Type 0) : Type 0 where
+  given : A → Answer A
+  refused : ℕ → ℕ → Answer A
+
+-- the lent list after a call that stores `new` first, and on a refusal leaves it as it was
+abbrev pub stored : {A : Type 0} → Answer A → List ℕ → List ℕ → List ℕ
+stored (given a) new l = front new l
+stored (refused n at) new l = l

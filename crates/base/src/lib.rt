@@ -1,0 +1,76 @@
+// What every other crate stands on: the refusals R1 to R23 by name, and a record of five numbers stored in a lent flat list.
+ghost use mathlib.Core.Path.{_≡_};
+ghost use Prim.Native.Nat.{_+_, _≤_};
+ghost use mathlib.Core.List.{[], _∷_};
+ghost use lib.ListN.{length};
+ghost use lib.Seq.{sets};
+ghost use Rattle.base.specs.Refusals.{numberOf};
+
+pub enum Refusal {
+    MtuOverLimit,
+    UnitOverLimit,
+    ExtensionMissing,
+    SizeMissing,
+    SizeUnfinished,
+    SizeTooLarge,
+    PayloadPastUnit,
+    ObuListFull,
+    PlanListFull,
+    OutputFull,
+    NoSuchPacket,
+    StateImpossible,
+    PayloadLength,
+    NotAhead,
+    NewWithContinuation,
+    ElementLengthBad,
+    ElementBad,
+    ObuBroken,
+    FragmentTooLong,
+    OutputTooShort,
+    TrainVersion,
+    TrainCut,
+    RecordTooShort,
+}
+
+// The number of a refusal, by the one definition that contracts cite.
+pub fn number(refusal: Refusal) -> u32
+    ensures { λ r. ⌜ r ≡ numberOf refusal ⌝ }
+{
+    match refusal {
+        Refusal::MtuOverLimit => 1,
+        Refusal::UnitOverLimit => 2,
+        Refusal::ExtensionMissing => 3,
+        Refusal::SizeMissing => 4,
+        Refusal::SizeUnfinished => 5,
+        Refusal::SizeTooLarge => 6,
+        Refusal::PayloadPastUnit => 7,
+        Refusal::ObuListFull => 8,
+        Refusal::PlanListFull => 9,
+        Refusal::OutputFull => 10,
+        Refusal::NoSuchPacket => 11,
+        Refusal::StateImpossible => 12,
+        Refusal::PayloadLength => 13,
+        Refusal::NotAhead => 14,
+        Refusal::NewWithContinuation => 15,
+        Refusal::ElementLengthBad => 16,
+        Refusal::ElementBad => 17,
+        Refusal::ObuBroken => 18,
+        Refusal::FragmentTooLong => 19,
+        Refusal::OutputTooShort => 20,
+        Refusal::TrainVersion => 21,
+        Refusal::TrainCut => 22,
+        Refusal::RecordTooShort => 23,
+    }
+}
+
+// Stores five numbers of a flat list from place `at` on.
+pub fn put_five(list: &mut [u32], at: usize, a: u32, b: u32, c: u32, d: u32, e: u32)
+    requires { ⌜ at + 5 ≤ length (now list) ⌝ }
+    ensures { λ _. ⌜ now (list .exit) ≡ sets (now (list .entry)) at (a ∷ b ∷ c ∷ d ∷ e ∷ []) ⌝ }
+{
+    list[at] = a;
+    list[at + 1] = b;
+    list[at + 2] = c;
+    list[at + 3] = d;
+    list[at + 4] = e;
+}

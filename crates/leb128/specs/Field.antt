@@ -1,0 +1,50 @@
+-- Size fields: what the bytes at the front of a list say, and how a number is written (F1 to F4, R5, R6).
+use Prim.Native.Nat.{ℕ, zero, suc, _+_, _*_, _/_, _%_}
+use mathlib.Core.List.{List, [], _∷_}
+use mathlib.Core.Bool.{cond}
+use lib.Dec.{ltb, leb}
+
+-- L5, L6: the most bytes of a field, and the largest value
+abbrev pub longestField : ℕ
+longestField = 8
+
+abbrev pub largestValue : ℕ
+largestValue = 4294967295
+
+-- what reading finds: a value and the bytes that it takes, or refusal 5 or 6
+pub data Field : Type 0 where
+  sized : ℕ → ℕ → Field
+  unreadable : ℕ → Field
+
+-- a byte with the top bit set: its low seven bits, plus 128 times the value of the rest
+abbrev pub more : ℕ → Field → Field
+more b (sized v n) = sized (b % 128 + 128 * v) (n + 1)
+more b (unreadable k) = unreadable k
+
+-- the field at the front of a list, of which at most `left` bytes may come
+unfoldable pub fieldIn : ℕ → List ℕ → Field
+fieldIn zero l = unreadable 6
+fieldIn (suc left) [] = unreadable 5
+fieldIn (suc left) (b ∷ l) = cond (ltb b 128) (sized (b % 128) 1) (more b (fieldIn left l))
+
+-- a value over the largest is refused
+abbrev pub capped : Field → Field
+capped (sized v n) = cond (leb v largestValue) (sized v n) (unreadable 6)
+capped (unreadable k) = unreadable k
+
+abbrev pub sizeField : List ℕ → Field
+sizeField l = capped (fieldIn longestField l)
+
+-- v in n bytes and a last one, seven bits a byte; longer than the shortest form, it is a padded one
+unfoldable pub form : ℕ → ℕ → List ℕ
+form zero v = (v % 128) ∷ []
+form (suc n) v = (128 + v % 128) ∷ form n (v / 128)
+
+-- the shortest form of v, if it has at most so many bytes
+unfoldable pub encodeIn : ℕ → ℕ → List ℕ
+encodeIn zero v = []
+encodeIn (suc k) v = cond (ltb v 128) (v ∷ []) ((128 + v % 128) ∷ encodeIn k (v / 128))
+
+-- the shortest form of a value up to the largest, which has at most five bytes
+abbrev pub encode : ℕ → List ℕ
+encode v = encodeIn 5 v

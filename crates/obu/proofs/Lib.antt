@@ -1,0 +1,6 @@
+-- What the proofs of the functions, and of callers, cite.
+pub mod Rows
+pub mod Fronts
+pub mod Wires
+pub mod Scans
+pub mod Theorems

@@ -1,0 +1,56 @@
+-- The rows of U that refuse or keep nothing odd, on the list call; computed. Assumes nothing.
+use mathlib.Core.Path.{_≡_, refl}
+use Prim.Native.Nat.{ℕ}
+use mathlib.Core.List.{List, [], _∷_, map, flatMap}
+use Rattle.base.specs.Answers.{Answer, given, refused}
+use Rattle.base.specs.Lists.{keep}
+use Rattle.leb128.specs.Field.{fieldIn, encodeIn}
+use Rattle.obu.specs.Front.{frontOf, headed}
+use Rattle.obu.specs.Unit.{scanFrom, listed, obusOf, flat}
+use Rattle.obu.specs.Wire.{wholeOf, wire}
+
+units : List (List ℕ)
+units =
+    []
+    ∷ (0x12 ∷ 0 ∷ 0x0a ∷ 3 ∷ 0x11 ∷ 0x22 ∷ 0x33 ∷ 0x32 ∷ 5 ∷ 0xa1 ∷ 0xa2 ∷ 0xa3 ∷ 0xa4 ∷ 0xa5 ∷ [])
+    ∷ (0x34 ∷ 8 ∷ [])
+    ∷ (0x36 ∷ 8 ∷ 1 ∷ 0xc1 ∷ [])
+    ∷ (0x32 ∷ 0x80 ∷ 0x80 ∷ 0x80 ∷ 0x80 ∷ 0x80 ∷ 0x80 ∷ 0x80 ∷ 0 ∷ [])
+    ∷ (0x32 ∷ 0 ∷ 0x32 ∷ 0 ∷ 0x32 ∷ 2 ∷ 0xa1 ∷ [])
+    ∷ (0x36 ∷ [])
+    ∷ (0x32 ∷ [])
+    ∷ (0x36 ∷ 8 ∷ [])
+    ∷ (0x32 ∷ 0xff ∷ [])
+    ∷ (0x32 ∷ 2 ∷ 0xa1 ∷ [])
+    ∷ (0x32 ∷ 0x80 ∷ 0x80 ∷ 0x80 ∷ 0x80 ∷ 0x10 ∷ [])
+    ∷ (0x32 ∷ 0 ∷ 0x7a ∷ 0 ∷ 0x32 ∷ [])
+    ∷ []
+
+table :
+    map (listed 2) units
+    ≡ given 0 ∷ given 2 ∷ given 1 ∷ given 1 ∷ given 1 ∷ refused 7 4
+    ∷ refused 3 0 ∷ refused 4 0 ∷ refused 4 0 ∷ refused 5 0 ∷ refused 7 0 ∷ refused 6 0 ∷ refused 4 4 ∷ []
+unfolding units listed scanFrom frontOf headed fieldIn keep
+table = refl
+
+-- with space for one record, the second kept OBU is refused before the third is looked at
+early : listed 1 (0x32 ∷ 0 ∷ 0x32 ∷ 0 ∷ 0x32 ∷ 2 ∷ 0xa1 ∷ []) ≡ refused 8 2
+unfolding listed scanFrom frontOf headed fieldIn keep
+early = refl
+
+lists :
+    flat (obusOf (0x12 ∷ 0 ∷ 0x0a ∷ 3 ∷ 0x11 ∷ 0x22 ∷ 0x33 ∷ 0x36 ∷ 8 ∷ 1 ∷ 0xc1 ∷ []))
+    ≡ 10 ∷ 0 ∷ 4 ∷ 3 ∷ 4 ∷ 54 ∷ 8 ∷ 10 ∷ 1 ∷ 3 ∷ []
+unfolding scanFrom frontOf headed fieldIn keep flatMap
+lists = refl
+
+-- an OBU of exactly these bytes: broken, or handed out with bit 1 set and a size field; dropped types hand out nothing
+finished : List (List ℕ)
+finished = (0x30 ∷ 0xa1 ∷ []) ∷ (0x34 ∷ 8 ∷ []) ∷ (0x32 ∷ 0x81 ∷ 0 ∷ 0xa1 ∷ []) ∷ (0x10 ∷ []) ∷ (0x12 ∷ []) ∷ (0x32 ∷ 0x80 ∷ []) ∷ (0x34 ∷ []) ∷ (0x32 ∷ 0 ∷ 0xa1 ∷ []) ∷ []
+
+handed :
+    map wire finished
+    ≡ given (0x32 ∷ 1 ∷ 0xa1 ∷ []) ∷ given (0x36 ∷ 8 ∷ 0 ∷ []) ∷ given (0x32 ∷ 1 ∷ 0xa1 ∷ []) ∷ given []
+    ∷ refused 18 0 ∷ refused 18 0 ∷ refused 18 0 ∷ refused 18 0 ∷ []
+unfolding finished wire wholeOf frontOf headed fieldIn encodeIn
+handed = refl

@@ -1,0 +1,170 @@
+-- What holds of a unit's OBUs, and of what goes out for them. Assumes nothing.
+--     kept-inside   a kept OBU lies in its unit: its size is at least 1 and at most the unit's length, and so on (Inside)
+--     sent-length   what is sent of it has its size
+--     wire-sent     what a receiver makes of that: bit 1 set, extension byte, shortest size field, payload
+--     wire-small    for all kept OBUs of a unit that is at most the unit's length plus 3 bytes
+use mathlib.Core.Path.{_≡_, refl, sym, ap, ap₂, subst, _∙_}
+use Prim.Native.Nat.{ℕ, zero, suc, _+_, _-_, _*_, _/_, _%_, _≤_, _<_}
+use native.Mathlib.Omega.{arith}
+use mathlib.Core.List.{List, [], _∷_, _++_, map, flatMap}
+use mathlib.Core.Bool.{Bool, true, false, cond}
+use mathlib.Core.Logic.{⊎-elim}
+use lib.ListN.{length, take, drop, length-append, length-drop}
+use lib.Seq.{length-take-le}
+use lib.Dec.{eqb}
+use lib.Pow.{shr-shr}
+use borrow.Author.Tests.{eq-eqb, ne-eqb, eqb-true, eqb-false}
+use Rattle.base.specs.Answers.{Answer, given, refused}
+use Rattle.base.specs.Lists.{keep, All}
+use Rattle.base.proofs.Lists.{all-keep}
+use Rattle.base.proofs.Tests.{by-cond}
+use Rattle.leb128.specs.Field.{encode}
+use Rattle.leb128.proofs.Theorems.{size-most}
+use Rattle.obu.specs.Header.{typeOf, extensionBit, sizeBit, headerSize, cleared, marked, drops}
+use Rattle.obu.specs.Front.{Front, startOf, spanOf, Seen, found, stopped, sizedBy, headed, extended, frontOf}
+use Rattle.obu.specs.Unit.{unitLimit, Placed, placed, Scan, followed, scanFrom, scanOf, isKept, keptOf, obusOf}
+use Rattle.obu.specs.Wire.{extensionBytes, payloadOf, sent, exactly, wholeOf, framed, handedOut, wire, wireOf}
+use Rattle.obu.specs.declared.Obu.{Obu}
+use Rattle.obu.proofs.Fronts.{Spans, front-spans}
+
+-- ---- an OBU lies in its unit
+
+pub record Inside (total : ℕ) (p : Placed) : Type 0 where
+  pub start : p .obu .start ≡ p .at + (headerSize (p .obu .header) + p .field)
+  pub within : p .obu .start + p .obu .length ≤ total
+  pub size : p .obu .size ≡ headerSize (p .obu .header) + p .obu .length
+
+inside-next : (at total : ℕ) (l : List ℕ) (s : Seen) (rest : ℕ → Scan) → Spans l s → at + length l ≡ total → ((n : ℕ) → All (Inside total) (rest n .obus))
+    → All (Inside total) (followed at s rest .obus)
+inside-next at total l (stopped n) rest s e r = tt
+inside-next at total l (found f) rest s e r = (record { start = refl; within = omega arith; size = refl }, r (spanOf f))
+
+inside-from : (l : List ℕ) (skip at total : ℕ) → at + length l ≡ total → All (Inside total) (scanFrom l skip at .obus)
+unfolding scanFrom
+inside-from [] skip at total e = tt
+inside-from (b ∷ l) (suc skip) at total e = inside-from l skip (at + 1) total (omega arith)
+inside-from (b ∷ l) zero at total e =
+    inside-next at total (b ∷ l) (frontOf (b ∷ l)) (λ n. scanFrom l (n - 1) (at + 1)) (front-spans (b ∷ l)) e
+    (λ n. inside-from l (n - 1) (at + 1) total (omega arith))
+
+pub kept-inside : (unit : List ℕ) → All (Inside (length unit)) (keptOf unit)
+kept-inside unit = all-keep (Inside (length unit)) isKept (scanOf unit .obus) (inside-from unit 0 0 (length unit) (omega arith))
+
+pub inside-size : (total : ℕ) (p : Placed) → Inside total p → (1 ≤ p .obu .size) × (p .obu .size ≤ total)
+inside-size total p i = omega arith
+
+-- ---- what is sent of an OBU, and what a receiver makes of it
+
+cleared-bits : (h : ℕ) → (sizeBit (cleared h) ≡ 0) × (extensionBit (cleared h) ≡ extensionBit h) × (typeOf (cleared h) ≡ typeOf h) × (cleared (cleared h) ≡ cleared h)
+cleared-bits h =
+    let a : h / 2 / 2 ≡ h / 4 = shr-shr h 1 1 in
+    let b : h / 4 / 2 ≡ h / 8 = shr-shr h 2 1 in
+    let k : ℕ = h - h / 2 % 2 * 2 in
+    let c : k / 2 / 2 ≡ k / 4 = shr-shr k 1 1 in
+    let d : k / 4 / 2 ≡ k / 8 = shr-shr k 2 1 in
+    let e : k / 2 ≡ h / 4 * 2 = omega arith in
+    let f : k / 4 ≡ h / 4 = omega arith in
+    let g : k / 8 ≡ h / 8 = omega arith in
+    let z : k / 2 % 2 ≡ 0 = omega arith in
+    (z, ap (λ (x : ℕ). x % 2) f, ap (λ (x : ℕ). x % 16) g, omega arith)
+
+extension-length : (h e : ℕ) → length (extensionBytes h e) ≡ extensionBit h
+extension-length h e =
+    by-cond (λ (l : List ℕ). length l ≡ extensionBit h) (eqb (extensionBit h) 1) (e ∷ []) []
+    (λ t. sym (eqb-true (extensionBit h) 1 t))
+    (λ t. let n : (extensionBit h ≡ 1 → ⊥) = eqb-false (extensionBit h) 1 t in omega arith)
+
+payload-length : (unit : List ℕ) (o : Obu) → o .start + o .length ≤ length unit → length (payloadOf unit o) ≡ o .length
+payload-length unit o h = length-take-le (o .length) (drop (o .start) unit) (omega (arith, length-drop (o .start) unit))
+
+pub sent-length : (unit : List ℕ) (p : Placed) → Inside (length unit) p → length (sent unit (p .obu)) ≡ p .obu .size
+sent-length unit p i =
+    let o = p .obu in
+    omega (arith, length-append (extensionBytes (o .header) (o .extension)) (payloadOf unit o), extension-length (o .header) (o .extension), payload-length unit o (i .within))
+
+-- an OBU without a size field, of exactly its header bytes and its payload
+wire-bare : (h e : ℕ) (payload : List ℕ) (t : Bool) → eqb (extensionBit h) 1 ≡ t → sizeBit h ≡ 0 → drops (typeOf h) ≡ false
+    → wire (h ∷ (cond t (e ∷ []) [] ++ payload)) ≡ given (marked h ∷ (cond t (e ∷ []) [] ++ (encode (length payload) ++ payload)))
+unfolding wire wholeOf frontOf headed
+wire-bare h e payload true q s d =
+    let x : extensionBit h ≡ 1 = eqb-true (extensionBit h) 1 q in
+    let y : headerSize h + 0 ≡ 2 = omega arith in
+    rw (q, ne-eqb (sizeBit h) 1 (omega arith), eq-eqb (headerSize h + 0 + length payload) (suc (suc (length payload))) (omega arith), d, y, q)
+wire-bare h e payload false q s d =
+    let x : (extensionBit h ≡ 1 → ⊥) = eqb-false (extensionBit h) 1 q in
+    let y : headerSize h + 0 ≡ 1 = omega arith in
+    rw (q, ne-eqb (sizeBit h) 1 (omega arith), eq-eqb (headerSize h + 0 + length payload) (suc (length payload)) (omega arith), d, y, q)
+
+pub wire-sent : (unit : List ℕ) (o : Obu) → drops (typeOf (o .header)) ≡ false → wire (sent unit o) ≡ given (wireOf unit o)
+wire-sent unit o d =
+    let h = o .header in
+    let b = cleared-bits h in
+    let q : eqb (extensionBit (cleared h)) 1 ≡ eqb (extensionBit h) 1 = ap (λ (x : ℕ). eqb x 1) (b .1) in
+    wire-bare (cleared h) (o .extension) (payloadOf unit o) (eqb (extensionBit h) 1) q (b .0) (ap drops (b .2) ∙ d)
+    ∙ ap (λ (x : ℕ). given ((x + 2) ∷ (extensionBytes h (o .extension) ++ (encode (length (payloadOf unit o)) ++ payloadOf unit o)))) (b .3)
+
+-- ---- how much goes out for a unit
+
+wireSize : Placed → ℕ
+wireSize p = headerSize (p .obu .header) + length (encode (p .obu .length)) + p .obu .length
+
+weight : List Placed → ℕ
+weight [] = 0
+weight (p ∷ ps) = wireSize p + weight ps
+
+-- at most so much for so many bytes, and for none nothing
+abbrev Bounded : ℕ → ℕ → Type 0
+Bounded left w = (w ≤ left + 3) × (left ≡ 0 → w ≡ 0)
+
+field-small : (v : ℕ) → v ≤ unitLimit → length (encode v) ≤ 3
+field-small v h = size-most 3 v (omega arith) (omega arith) (omega arith)
+
+weight-next : (at : ℕ) (l : List ℕ) (s : Seen) (rest : ℕ → Scan) → Spans l s → length l ≤ unitLimit → ((n : ℕ) → Bounded (length l - n) (weight (rest n .obus)))
+    → Bounded (length l) (weight (followed at s rest .obus))
+unfolding weight wireSize
+weight-next at l (stopped n) rest s u r = omega arith
+weight-next at l (found f) rest s u r =
+    let k = r (spanOf f) in
+    ⊎-elim
+    (λ short. (omega arith, λ z. absurd (omega arith)))
+    (λ last.
+    let none : weight (rest (spanOf f) .obus) ≡ 0 = k .1 (omega arith) in
+    (omega (arith, field-small (f .payload) (omega arith)), λ z. absurd (omega arith)))
+    (s .1)
+
+weight-from : (l : List ℕ) (skip at : ℕ) → length l ≤ unitLimit → Bounded (length l - skip) (weight (scanFrom l skip at .obus))
+unfolding scanFrom weight
+weight-from [] skip at u = (omega arith, λ z. refl)
+weight-from (b ∷ l) (suc skip) at u =
+    let i = weight-from l skip (at + 1) (omega arith) in
+    (omega arith, λ z. i .1 (omega arith))
+weight-from (b ∷ l) zero at u =
+    let w =
+    weight-next at (b ∷ l) (frontOf (b ∷ l)) (λ n. scanFrom l (n - 1) (at + 1)) (front-spans (b ∷ l)) u
+    (λ n. let i = weight-from l (n - 1) (at + 1) (omega arith) in (omega arith, λ z. i .1 (omega arith))) in
+    (omega arith, λ z. w .1 (omega arith))
+
+weight-keep : (test : Placed → Bool) (ps : List Placed) → weight (keep test ps) ≤ weight ps
+unfolding keep weight
+weight-keep test [] = omega arith
+weight-keep test (p ∷ ps) =
+    by-cond (λ (qs : List Placed). weight qs ≤ wireSize p + weight ps) (test p) (p ∷ keep test ps) (keep test ps)
+    (λ t. omega (arith, weight-keep test ps))
+    (λ t. omega (arith, weight-keep test ps))
+
+wire-length : (unit : List ℕ) (p : Placed) → Inside (length unit) p → length (wireOf unit (p .obu)) ≡ wireSize p
+unfolding wireSize
+wire-length unit p i =
+    let o = p .obu in
+    let l : length (payloadOf unit o) ≡ o .length = payload-length unit o (i .within) in
+    omega (arith, length-append (extensionBytes (o .header) (o .extension)) (encode (length (payloadOf unit o)) ++ payloadOf unit o), length-append (encode (length (payloadOf unit o))) (payloadOf unit o), extension-length (o .header) (o .extension), ap (λ (n : ℕ). length (encode n)) l)
+
+weight-is : (unit : List ℕ) (ps : List Placed) → All (Inside (length unit)) ps → length (flatMap (wireOf unit) (map (λ (p : Placed). p .obu) ps)) ≡ weight ps
+unfolding flatMap weight
+weight-is unit [] h = refl
+weight-is unit (p ∷ ps) h =
+    length-append (wireOf unit (p .obu)) (flatMap (wireOf unit) (map (λ (q : Placed). q .obu) ps)) ∙ ap₂ _+_ (wire-length unit p (h .0)) (weight-is unit ps (h .1))
+
+pub wire-small : (unit : List ℕ) → length unit ≤ unitLimit → length (flatMap (wireOf unit) (obusOf unit)) ≤ length unit + 3
+wire-small unit u =
+    omega (arith, weight-is unit (keptOf unit) (kept-inside unit), weight-keep isKept (scanOf unit .obus), weight-from unit 0 0 u .0)

@@ -1,0 +1,147 @@
+use mathlib.Core.Path.{_≡_, sym, ap, _∙_}
+use Prim.Native.Nat.{ℕ, _-_, _≤_}
+use native.Mathlib.Omega.{arith}
+use mathlib.Core.List.{List}
+use mathlib.Core.Bool.{cond}
+use lib.ListN.{length, getD, take, drop, length-drop}
+use lib.Dec.{eqb}
+use Rattle.base.proofs.Lists.{part-from}
+use Rattle.leb128.specs.Field.{sized, sizeField}
+use Rattle.leb128.specs.Paper.{paper}
+use Rattle.leb128.proofs.Reading.{size-within}
+use Rattle.obu.specs.Header.{extensionBit}
+use Rattle.obu.specs.Front.{headBytes, headed, frontOf}
+use Rattle.obu.proofs.Fronts.{same-first, same-field, front-3, front-headed, front-4, front-rest, front-in, front-past, front-bad}
+use borrow.Author.Needs.{needs}
+use Rattle.obu.proofs.read_obu.Statement.{statement}
+use Rattle.obu.proofs.read_obu.Tie as tie
+use Rattle.obu.proofs.read_obu.Reads as reads
+use Rattle.obu.proofs.read_obu.Lts as lts
+use Rattle.leb128.proofs.read_leb128.Reads as read-leb128-reads
+use Rattle.obu.proofs.extension_byte.Reads as extension-byte-reads
+use Rattle.obu.proofs.header_size.Reads as header-size-reads
+use Rattle.obu.proofs.obu_has_size.Reads as obu-has-size-reads
+
+-- after the header bytes, for all bytes that begin so
+known :
+    (c : tie.After-extension-byte) (all : List ℕ) → take headBytes all ≡ take headBytes (c .before .before .before .before .before .args .bytes .now) → length all ≡ c .before .before .before .before .before .args .total →
+    frontOf all ≡ headed (getD (c .before .before .before .before .before .args .bytes .now) 0 0) (c .extension-byte .result) (drop (c .before .before .header-size .result) all)
+known c all e l =
+    let b = c .before .before .before .before .before .args .bytes .now in
+    front-headed all (getD b 0 0) (c .extension-byte .result) (c .before .before .header-size .result) (sym (same-first all b e 0 (omega arith))) (c .before .before .header-size .ensures) (omega arith)
+    (c .extension-byte .ensures ∙ ap (λ (x : ℕ). cond (eqb (extensionBit (getD b 0 0)) 1) x 0) (sym (same-first all b e 1 (omega arith))))
+
+-- what is left after the header bytes
+left :
+    (c : tie.After-extension-byte) (all : List ℕ) → length all ≡ c .before .before .before .before .before .args .total →
+    length (drop (c .before .before .header-size .result) all) ≡ c .before .before .before .before .before .args .total - c .before .before .header-size .result
+left c all l = length-drop (c .before .before .header-size .result) all ∙ ap (λ (n : ℕ). n - c .before .before .header-size .result) l
+
+-- the size field that was read
+read :
+    (c : tie.After-read-leb128) → paper (c .read-leb128 .result) ≡ sizeField (drop (c .before .before .before .before .before .before .before .header-size .result) (c .before .before .before .before .before .before .before .before .before .before .args .bytes .now))
+read c =
+    c .read-leb128 .ensures ∙ ap sizeField (part-from (c .before .before .before .before .before .before .before .before .before .before .args .bytes .now) (c .before .before .before .before .before .before .before .header-size .result) (omega arith))
+
+field :
+    (c : tie.After-read-leb128) (all : List ℕ) → take headBytes all ≡ take headBytes (c .before .before .before .before .before .before .before .before .before .before .args .bytes .now) →
+    paper (c .read-leb128 .result) ≡ sizeField (drop (c .before .before .before .before .before .before .before .header-size .result) all)
+field c all e = read c ∙ sym (same-field all (c .before .before .before .before .before .before .before .before .before .before .args .bytes .now) e (c .before .before .before .before .before .before .before .header-size .result) (omega arith))
+
+shared-slice-read-header : tie.Need-shared-slice-read-header
+shared-slice-read-header c = search needs
+
+header-size-requires : tie.Need-header-size-requires
+header-size-requires c κs = search needs
+
+returns : tie.Need-returns
+returns c =
+    λ all e l.
+    let b = c .before .before .before .before .args .bytes .now in
+    let h : getD all 0 0 ≡ getD b 0 0 = same-first all b e 0 (omega arith) in
+    sym (front-3 all (omega arith) (rw h (omega arith)))
+
+extension-byte-requires : tie.Need-extension-byte-requires
+extension-byte-requires c κs = search needs
+
+obu-has-size-requires : tie.Need-obu-has-size-requires
+obu-has-size-requires c κs = search needs
+
+returns-2 : tie.Need-returns-2
+returns-2 c =
+    λ all e l.
+    front-4 all _ _ (c .before .before .before .before .before .header-size .result) _ (known (c .before .before .before) all e l) (left (c .before .before .before) all l) (sym (c .before .before .obu-has-size .ensures) ∙ c .before .if2 .taken) (c .if3 .taken)
+
+sub-read-leb128 : tie.Need-sub-read-leb128
+sub-read-leb128 c = search needs
+
+part-read-leb128-start : tie.Need-part-read-leb128-start
+part-read-leb128-start c = search needs
+
+part-read-leb128-end : tie.Need-part-read-leb128-end
+part-read-leb128-end c = search needs
+
+read-leb128-requires : tie.Need-read-leb128-requires
+read-leb128-requires c κs = search needs
+
+enum-known-size : tie.Need-enum-known-size
+enum-known-size c = search needs
+
+cast-payload : tie.Need-cast-payload
+cast-payload c = search needs
+
+sub-if4 : tie.Need-sub-if4
+sub-if4 c =
+    let v = c .before .before .size .given .0 .0 in
+    omega (arith, size-within _ (v .value) (v .used) (sym (ap paper (c .before .before .size .given .1)) ∙ read (c .before .before .before .before)), length-drop (c .before .before .before .before .before .before .before .before .before .before .before .header-size .result) (c .before .before .before .before .before .before .before .before .before .before .before .before .before .before .args .bytes .now))
+
+enum-known-refusal : tie.Need-enum-known-refusal
+enum-known-refusal c = search needs
+
+returns-3 : tie.Need-returns-3
+returns-3 c =
+    λ all e l.
+    let v = c .before .before .before .size .given .0 .0 in
+    front-in all _ _ (c .before .before .before .before .before .before .before .before .before .before .before .before .header-size .result) _ (known (c .before .before .before .before .before .before .before .before .before .before) all e l) (left (c .before .before .before .before .before .before .before .before .before .before) all l) (sym (c .before .before .before .before .before .before .before .before .before .obu-has-size .ensures) ∙ c .before .before .before .before .before .before .before .before .if2 .taken) (c .before .before .before .before .before .before .before .if3 .left) (v .value) (v .used)
+    (sym (ap paper (c .before .before .before .size .given .1)) ∙ field (c .before .before .before .before .before) all e) (c .if4 .taken)
+
+returns-4 : tie.Need-returns-4
+returns-4 c =
+    λ all e l.
+    let v = c .before .before .before .size .given .0 .0 in
+    front-past all _ _ (c .before .before .before .before .before .before .before .before .before .before .before .before .header-size .result) _ (known (c .before .before .before .before .before .before .before .before .before .before) all e l) (left (c .before .before .before .before .before .before .before .before .before .before) all l) (sym (c .before .before .before .before .before .before .before .before .before .obu-has-size .ensures) ∙ c .before .before .before .before .before .before .before .before .if2 .taken) (c .before .before .before .before .before .before .before .if3 .left) (v .value) (v .used)
+    (sym (ap paper (c .before .before .before .size .given .1)) ∙ field (c .before .before .before .before .before) all e) (c .if4 .left)
+
+returns-5 : tie.Need-returns-5
+returns-5 c =
+    λ all e l.
+    front-bad all _ _ (c .before .before .before .before .before .before .before .before .before .before .header-size .result) _ (known (c .before .before .before .before .before .before .before .before) all e l) (left (c .before .before .before .before .before .before .before .before) all l) (sym (c .before .before .before .before .before .before .before .obu-has-size .ensures) ∙ c .before .before .before .before .before .before .if2 .taken) (c .before .before .before .before .before .if3 .left) _
+    (sym (ap paper (c .before .refusal .given .1)) ∙ field (c .before .before .before) all e)
+
+returns-6 : tie.Need-returns-6
+returns-6 c =
+    λ all e l.
+    front-rest all _ _ (c .before .before .before .before .header-size .result) _ (known (c .before .before) all e l) (left (c .before .before) all l) (sym (c .before .obu-has-size .ensures) ∙ c .if2 .left)
+
+pub read-obu-spec : {M : Type 1} → statement M
+read-obu-spec =
+    tie.close
+    (tie.spec
+    shared-slice-read-header
+    header-size-requires
+    returns
+    extension-byte-requires
+    obu-has-size-requires
+    returns-2
+    sub-read-leb128
+    part-read-leb128-start
+    part-read-leb128-end
+    read-leb128-requires
+    enum-known-size
+    cast-payload
+    sub-if4
+    enum-known-refusal
+    returns-3
+    returns-4
+    returns-5
+    returns-6)

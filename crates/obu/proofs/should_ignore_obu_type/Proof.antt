@@ -1,0 +1,17 @@
+use borrow.Author.Tests.{eq-eqb, ne-eqb}
+use Rattle.obu.proofs.should_ignore_obu_type.Statement.{statement}
+use Rattle.obu.proofs.should_ignore_obu_type.Tie as tie
+use Rattle.obu.proofs.should_ignore_obu_type.Reads as reads
+use Rattle.obu.proofs.should_ignore_obu_type.Lts as lts
+
+returns : tie.Need-returns
+returns c = simp (eq-eqb _ _ (c .if1 .taken))
+
+returns-2 : tie.Need-returns-2
+returns-2 c = simp (ne-eqb _ _ (c .before .if1 .left), eq-eqb _ _ (c .if2 .taken))
+
+returns-3 : tie.Need-returns-3
+returns-3 c = simp (ne-eqb _ _ (c .before .if1 .left), ne-eqb _ _ (c .if2 .left))
+
+pub should-ignore-obu-type-spec : {M : Type 1} → statement M
+should-ignore-obu-type-spec = tie.close (tie.spec returns returns-2 returns-3)

@@ -1,0 +1,5 @@
+pub mod Header
+pub mod Front
+pub mod Unit
+pub mod Wire
+pub mod Paper

@@ -1,0 +1,55 @@
+use mathlib.Core.Path.{sym}
+use native.Mathlib.Omega.{arith}
+use lib.Seq.{length-take-le}
+use borrow.Author.Needs.{needs}
+use Rattle.vectors.proofs.end_of_line.Statement.{statement}
+use Rattle.vectors.proofs.end_of_line.Tie as tie
+use Rattle.vectors.proofs.end_of_line.Reads as reads
+use Rattle.vectors.proofs.end_of_line.Lts as lts
+use Rattle.vectors.proofs.answer.Reads as answer-reads
+use Rattle.vectors.proofs.smaller.Reads as smaller-reads
+
+smaller-requires : tie.Need-smaller-requires
+smaller-requires c κs = search needs
+
+smaller-requires-2 : tie.Need-smaller-requires-2
+smaller-requires-2 c κs = search needs
+
+slice-reshare-prefix-answer : tie.Need-slice-reshare-prefix-answer
+slice-reshare-prefix-answer c = search needs
+
+slice-aggregate-answer : tie.Need-slice-aggregate-answer
+slice-aggregate-answer c = sym (length-take-le (c .before .before .smaller .result) (c .before .before .before .before .before .args .unit .now) (omega arith))
+
+slice-relend-prefix-answer : tie.Need-slice-relend-prefix-answer
+slice-relend-prefix-answer c = search needs
+
+slice-aggregate-answer-2 : tie.Need-slice-aggregate-answer-2
+slice-aggregate-answer-2 c = sym (length-take-le (c .before .before .smaller2 .result) (c .before .before .before .before .before .before .args .list .now) (omega arith))
+
+answer-requires : tie.Need-answer-requires
+answer-requires c κs = search needs
+
+same-length : tie.Need-same-length
+same-length c = search needs
+
+same-length-2 : tie.Need-same-length-2
+same-length-2 c = search needs
+
+returns : tie.Need-returns
+returns c = search needs
+
+pub end-of-line-spec : {M : Type 1} → statement M
+end-of-line-spec =
+    tie.close
+    (tie.spec
+    smaller-requires
+    smaller-requires-2
+    slice-reshare-prefix-answer
+    slice-aggregate-answer
+    slice-relend-prefix-answer
+    slice-aggregate-answer-2
+    answer-requires
+    same-length
+    same-length-2
+    returns)

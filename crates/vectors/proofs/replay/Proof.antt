@@ -1,0 +1,97 @@
+use mathlib.Core.Path.{_≡_}
+use Prim.Native.Nat.{_-_}
+use lib.ListN.{length}
+use borrow.Author.Needs.{needs}
+use Rattle.vectors.proofs.replay.Statement.{statement}
+use Rattle.vectors.proofs.replay.Tie as tie
+use Rattle.vectors.proofs.replay.Reads as reads
+use Rattle.vectors.proofs.replay.Lts as lts
+use Rattle.io.proofs.count.Reads as count-reads
+use Rattle.libc.proofs.read.Reads as read-reads
+use Rattle.vectors.proofs.empty_line.Reads as empty-line-reads
+use Rattle.vectors.proofs.feed.Reads as feed-reads
+
+abbrev Inv-loop : tie.InvT-loop
+Inv-loop text₀ unit₀ list₀ line₀ turns₀ text unit list line turns = (length text ≡ length text₀) × (length unit ≡ length unit₀) × (length list ≡ length list₀)
+
+abbrev μ-loop : tie.MeasureT-loop
+μ-loop text₀ unit₀ list₀ line₀ turns₀ text unit list line turns = turns
+
+empty-line-requires : tie.Need-empty-line-requires Inv-loop μ-loop
+empty-line-requires c κs = search needs
+
+loop-holds : tie.Need-loop-holds Inv-loop μ-loop
+loop-holds c = search needs
+
+read-requires : tie.Need-read-requires Inv-loop μ-loop
+read-requires c κs = search needs
+
+count-requires : tie.Need-count-requires Inv-loop μ-loop
+count-requires c κs = search needs
+
+same-length : tie.Need-same-length Inv-loop μ-loop
+same-length c = search needs
+
+same-length-2 : tie.Need-same-length-2 Inv-loop μ-loop
+same-length-2 c = search needs
+
+same-length-3 : tie.Need-same-length-3 Inv-loop μ-loop
+same-length-3 c = search needs
+
+returns : tie.Need-returns Inv-loop μ-loop
+returns c = search needs
+
+slice-reshare-prefix-feed : tie.Need-slice-reshare-prefix-feed Inv-loop μ-loop
+slice-reshare-prefix-feed c = search needs
+
+slice-aggregate-feed : tie.Need-slice-aggregate-feed Inv-loop μ-loop
+slice-aggregate-feed c = search needs
+
+feed-requires : tie.Need-feed-requires Inv-loop μ-loop
+feed-requires c κs = search needs
+
+sub-turns : tie.Need-sub-turns Inv-loop μ-loop
+sub-turns c = search needs
+
+loop-less : tie.Need-loop-less Inv-loop μ-loop
+loop-less c = search needs
+
+loop-again : tie.Need-loop-again Inv-loop μ-loop
+loop-again c = search needs
+
+same-length-4 : tie.Need-same-length-4 Inv-loop μ-loop
+same-length-4 c = search needs
+
+same-length-5 : tie.Need-same-length-5 Inv-loop μ-loop
+same-length-5 c = search needs
+
+same-length-6 : tie.Need-same-length-6 Inv-loop μ-loop
+same-length-6 c = search needs
+
+returns-2 : tie.Need-returns-2 Inv-loop μ-loop
+returns-2 c = search needs
+
+pub replay-spec : {M : Type 1} → statement M
+replay-spec =
+    tie.close
+    (tie.spec
+    Inv-loop
+    μ-loop
+    empty-line-requires
+    loop-holds
+    read-requires
+    count-requires
+    same-length
+    same-length-2
+    same-length-3
+    returns
+    slice-reshare-prefix-feed
+    slice-aggregate-feed
+    feed-requires
+    sub-turns
+    loop-less
+    loop-again
+    same-length-4
+    same-length-5
+    same-length-6
+    returns-2)
