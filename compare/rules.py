@@ -350,6 +350,8 @@ def element(data, k):
 
 def wire(obu):
     """O11, V9. What a finished OBU hands out, or R18. Dropped types are checked too and hand out nothing."""
+    if not obu:
+        raise Refused(18)                           # no element is empty, so the receiver never asks this
     header, after = obu[0], 1
     if has_extension(header):
         if len(obu) < 2:
@@ -498,12 +500,19 @@ def vectors_line(numbers, unit):
     return "obus %d %s" % (len(kept), ";".join(map(record_text, kept))) if kept else "obus 0"
 
 
+def unit_of_text(text):
+    """A unit as `vectors` reads it: hex or `-`; `*` and a number repeat the last byte until there are so many."""
+    digits, _, wanted = text.partition("*")
+    unit = b"" if digits == "-" else bytes.fromhex(digits)
+    return unit + unit[-1:] * (int(wanted) - len(unit)) if wanted else unit
+
+
 def vectors(text):
     """What `vectors` prints."""
     lines = []
     for line in text.splitlines():
         numbers, unit = line.split(" ")
-        lines.append(vectors_line(int(numbers), b"" if unit == "-" else bytes.fromhex(unit)) + "\n")
+        lines.append(vectors_line(int(numbers), unit_of_text(unit)) + "\n")
     return "".join(lines)
 
 
@@ -569,7 +578,8 @@ ELEMENT_ROWS = [  # payload, its elements or the refusal with its place
     ("30 01 30 02 31 32 33", ["30", "3132", "33"]), ("00" + " 01 30" * 5, ["30"] * 5),
 ]
 WIRE_ROWS = [  # a finished OBU, what it hands out or 18
-    ("30", "32 00"), ("30 A1", "32 01 A1"), ("32 00", "32 00"), ("32 01 A1", "32 01 A1"), ("32 81 00 A1", "32 01 A1"),
+    ("", None), ("30", "32 00"), ("30 A1", "32 01 A1"), ("32 00", "32 00"), ("32 01 A1", "32 01 A1"),
+    ("32 81 00 A1", "32 01 A1"),
     ("34 08", "36 08 00"), ("36 08 00", "36 08 00"), ("B1 A1", "B3 01 A1"), ("10", ""), ("12 00", ""), ("40 01", ""),
     ("78 01", ""), ("12", None), ("34", None), ("14", None), ("36 08", None), ("32", None), ("32 80", None),
     ("32 00 A1", None), ("32 02 A1", None), ("32" + "80" * 8 + "00", None), ("30" + "A1" * 128, "32 80 01" + "A1" * 128),
@@ -613,8 +623,8 @@ def test_list(t):
     t.same("start of an empty payload", kept_obus(bytes.fromhex("36 08 80 00")), [Obu(0x36, 8, 4, 0, 2)])
     t.same("at the limit", kept_obus(b"\x30" + bytes(UNIT_LIMIT - 1)), [Obu(0x30, 0, 1, UNIT_LIMIT - 1, UNIT_LIMIT)])
     t.same("over the limit", answer(kept_obus, b"\x36" * (UNIT_LIMIT + 1)), [2, 0])
-    t.same("vectors", vectors("5 32003200\n0 -\n5 3200\n0 12007A00\n"),
-           "refused 8 2\nobus 0\nobus 1 50,0,2,0,1\nobus 0\n")
+    t.same("vectors", vectors("5 32003200\n0 -\n5 3200\n0 12007A00\n5 3001*4\n5 3200*2\n"),
+           "refused 8 2\nobus 0\nobus 1 50,0,2,0,1\nobus 0\nobus 1 48,0,1,3,4\nobus 1 50,0,2,0,1\n")
 
 
 def test_plan(t):
@@ -735,8 +745,8 @@ def test_receiver(t):
             handed = bytes.fromhex(want[0])
             t.same("receiver %s" % what, (got, store.hex().upper(), bytes(out)),
                    ((want[1], len(handed)), want[2], handed + b"\xEE" * (lent[1] - len(handed))))
-    t.same("open fragment at its limit", receive(State(True, 0, FRAGMENT_LIMIT - 1), 1, b"\xD0\x30",
-                                                 bytearray(FRAGMENT_LIMIT + 1), bytearray()), (State(True, 1, FRAGMENT_LIMIT), 0))
+    got = receive(State(True, 0, FRAGMENT_LIMIT - 1), 1, b"\xD0\x30", bytearray(FRAGMENT_LIMIT + 1), bytearray())
+    t.same("open fragment at its limit", got, (State(True, 1, FRAGMENT_LIMIT), 0))
     store, out = bytearray(9), bytearray(9)
     state, _ = receive(FRESH, 41, bytes.fromhex("50 30 A1"), store, out)
     _, count = receive(state, 42, bytes.fromhex("90 B2"), store, out)

@@ -236,23 +236,23 @@ def damaged():
 
 def at_limit():
     """Units at and just over 1,048,576 bytes."""
-    full, whole = LIMIT, b"\x32" + field(LIMIT - 4) + b"\x5A" * (LIMIT - 4)     # header, three bytes of size, payload
-    tail = {n: b"\x32" + field(LIMIT - n - 4) + bytes(LIMIT - n - 4) for n in (1, 2, 9, 10)}    # n bytes short
-    row = b"\x0A" + field(258) + b"\x11" * 258                                  # 261 bytes
-    units = [
-        (MOST_NUMBERS, 1200, b"\x30" + b"\x7F" * (full - 1)), (5, 65_533, b"\x30" + b"\x80" * (full - 1)),
+    full, ample = LIMIT, MOST_NUMBERS
+    whole = b"\x32" + field(full - 4) + b"\x5A" * (full - 4)           # header, three bytes of size, payload
+    short = {n: b"\x32" + field(full - n - 4) + bytes(full - n - 4) for n in (1, 2, 9, 10)}     # by n bytes
+    row = b"\x0A" + field(258) + b"\x11" * 258
+    for numbers, mtu, unit in (
+        (ample, 1200, b"\x30" + b"\x7F" * (full - 1)), (5, 65_533, b"\x30" + b"\x80" * (full - 1)),
         (5, 3, whole), (0, 1200, whole), (5, 65_533, whole), (9, 1200, whole[:-1]), (5, 1200, whole + b"\x30"),
-        (MOST_NUMBERS, 1200, b"\x30" + b"\x7F" * full), (MOST_NUMBERS, 0, b"\x36" * (full + 1)),
-        (MOST_NUMBERS, 0, whole + b"\x36"), (MOST_NUMBERS, 0, whole + b"\x32"), (MOST_NUMBERS, 0, b"\x32" + field(full) + bytes(full - 3)),
-        (MOST_NUMBERS, 0, b"\x12\x00" * (full // 2)), (MOST_NUMBERS, 1200, b"\x32\x00" * (full // 2)),
-        (0, 0, b"\x7A\x00" * (full // 2) + b"\x12"), (MOST_NUMBERS, 0, tail[1] + b"\x36"), (MOST_NUMBERS, 0, tail[1] + b"\x32"),
-        (MOST_NUMBERS, 1200, tail[1] + b"\x30"), (9, 0, tail[1] + b"\x30"), (10, 0, tail[1] + b"\x30"),
-        (MOST_NUMBERS, 0, tail[2] + b"\x32\xFF"), (MOST_NUMBERS, 0, tail[2] + b"\x32\x01"), (MOST_NUMBERS, 0, tail[2] + b"\x32\x00"),
-        (MOST_NUMBERS, 0, tail[9] + b"\x32" + b"\x80" * 8), (MOST_NUMBERS, 0, tail[10] + b"\x32" + b"\x80" * 8 + b"\x00"),
-        (MOST_NUMBERS, 0, b"\x32" + field(LIMIT - 3) + bytes(LIMIT - 4)),
-        (MOST_NUMBERS, 1200, row * 4000), (MOST_NUMBERS - 1, 1200, row * 4000), (MOST_NUMBERS, 1200, row * 4001),
-    ]
-    for numbers, mtu, unit in units:
+        (ample, 1200, b"\x30" + b"\x7F" * full), (ample, 0, b"\x36" * (full + 1)),
+        (ample, 0, whole + b"\x36"), (ample, 0, whole + b"\x32"), (ample, 0, b"\x32" + field(full) + bytes(full - 3)),
+        (ample, 0, b"\x12\x00" * (full // 2)), (ample, 1200, b"\x32\x00" * (full // 2)),
+        (0, 0, b"\x7A\x00" * (full // 2) + b"\x12"), (ample, 0, short[1] + b"\x36"), (ample, 0, short[1] + b"\x32"),
+        (ample, 1200, short[1] + b"\x30"), (9, 0, short[1] + b"\x30"), (10, 0, short[1] + b"\x30"),
+        (ample, 0, short[2] + b"\x32\xFF"), (ample, 0, short[2] + b"\x32\x01"), (ample, 0, short[2] + b"\x32\x00"),
+        (ample, 0, short[9] + b"\x32" + b"\x80" * 8), (ample, 0, short[10] + b"\x32" + b"\x80" * 8 + b"\x00"),
+        (ample, 0, b"\x32" + field(full - 3) + bytes(full - 4)),
+        (ample, 1200, row * 4000), (ample - 1, 1200, row * 4000), (ample, 1200, row * 4001),
+    ):
         yield Case("at the limit", numbers, mtu, unit)
 
 

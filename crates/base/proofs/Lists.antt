@@ -1,12 +1,13 @@
 -- Laws of lists that the library has not. Assumes nothing.
 use mathlib.Core.Path.{_≡_, refl, sym, ap, _∙_}
-use Prim.Native.Nat.{ℕ, zero, suc, _+_, _-_, _*_, _≤_}
-use native.Mathlib.Nat.{zero-add, suc-add, zero-mul, suc-mul}
+use Prim.Native.Nat.{ℕ, zero, suc, _+_, _-_, _*_, _≤_, _<_}
+use native.Mathlib.Nat.{zero-add, add-zero, suc-add, add-suc, zero-sub, sub-zero, suc-sub-suc, zero-mul, suc-mul}
+use native.Mathlib.Numerals.{add-one}
 use native.Mathlib.Omega.{arith}
 use mathlib.Core.Bool.{Bool, true, false, cond}
 use mathlib.Core.List.{List, [], _∷_, _++_, append-nil, append-assoc, flatMap}
-use lib.ListN.{length, take, drop, length-append, length-drop}
-use lib.Seq.{take-nil, take-all, take-at, drop-append-add, drop-drop, sets, sets-eq}
+use lib.ListN.{length, getD, take, drop, set, length-append, length-drop}
+use lib.Seq.{take-nil, take-all, take-suc, length-take-le, getD-drop, take-at, drop-append-add, drop-drop, sets, sets-eq}
 use Rattle.base.specs.Lists.{replaced, front, keep, All}
 use Rattle.base.proofs.Tests.{by-cond}
 
@@ -19,6 +20,31 @@ module _ {A : Type 0} where
   take-drop m zero l = rw (zero-add m)
   take-drop m (suc n) [] = rw (take-nil m, suc-add n m)
   take-drop m (suc n) (a ∷ l) = rw (suc-add n m) (take-drop m n l)
+
+  pub take-append : (n : ℕ) (l m : List A) → take n (l ++ m) ≡ take n l ++ take (n - length l) m
+  take-append zero l m = rw (zero-sub (length l))
+  take-append (suc n) [] m = rw (sub-zero (suc n))
+  take-append (suc n) (a ∷ l) m = rw (suc-sub-suc n (length l)) (ap (λ (r : List A). a ∷ r) (take-append n l m))
+
+  pub drop-append : (n : ℕ) (l m : List A) → drop n (l ++ m) ≡ drop n l ++ drop (n - length l) m
+  drop-append zero l m = rw (zero-sub (length l))
+  drop-append (suc n) [] m = rw (sub-zero (suc n))
+  drop-append (suc n) (a ∷ l) m = rw (suc-sub-suc n (length l)) (drop-append n l m)
+
+  -- stores one after the other
+  pub sets-append : (l : List A) (j : ℕ) (a b : List A) → sets l j (a ++ b) ≡ sets (sets l j a) (j + length a) b
+  sets-append l j [] b = rw add-zero
+  sets-append l j (x ∷ a) b =
+      sets-append (set l j x) (suc j) a b
+      ∙ ap (λ (k : ℕ). sets (sets (set l j x) (suc j) a) k b) (suc-add j (length a) ∙ sym (add-suc j (length a)))
+
+  -- a turn of the loop that copies
+  pub copy-more : (l s : List A) (at start i : ℕ) (d : A) → start + i < length s
+      → set (sets l at (take i (drop start s))) (at + i) (getD s (start + i) d) ≡ sets l at (take (i + 1) (drop start s))
+  copy-more l s at start i d h =
+      let k : i < length (drop start s) = omega (arith, length-drop start s) in
+      let n : length (take i (drop start s)) ≡ i = length-take-le i (drop start s) (omega arith) in
+      rw (add-one i, take-suc (drop start s) i d k, getD-drop start s i d, sets-append l at (take i (drop start s)) (getD s (start + i) d ∷ []), n)
 
   pub keep-yes : (test : A → Bool) (a : A) (l : List A) → test a ≡ true → keep test (a ∷ l) ≡ a ∷ keep test l
   unfolding keep

@@ -1,8 +1,9 @@
-// What every other crate stands on: the refusals R1 to R23 by name, and a record of five numbers stored in a lent flat list.
+// What every other crate stands on: the refusals R1 to R23 by name, a record of five numbers stored in a lent flat list, and
+// bytes copied.
 ghost use mathlib.Core.Path.{_≡_};
 ghost use Prim.Native.Nat.{_+_, _≤_};
 ghost use mathlib.Core.List.{[], _∷_};
-ghost use lib.ListN.{length};
+ghost use lib.ListN.{length, take, drop};
 ghost use lib.Seq.{sets};
 ghost use Rattle.base.specs.Refusals.{numberOf};
 
@@ -73,4 +74,17 @@ pub fn put_five(list: &mut [u32], at: usize, a: u32, b: u32, c: u32, d: u32, e: 
     list[at + 2] = c;
     list[at + 3] = d;
     list[at + 4] = e;
+}
+
+// Copies the n bytes of `from` at `start` to the cursor `at` of `to`, and returns the cursor after them.
+pub fn copy_bytes(from: &[u8], start: usize, n: usize, to: &mut [u8], at: usize) -> usize
+    requires { ⌜ (start + n ≤ length (now from)) × (at + n ≤ length (now to)) ⌝ }
+    ensures { λ r. ⌜ (r ≡ at + n) × (now (to .exit) ≡ sets (now (to .entry)) at (take n (drop start (now (from .entry))))) ⌝ }
+{
+    let mut i: usize = 0;
+    while i < n {
+        to[at + i] = from[start + i];
+        i += 1;
+    }
+    at + n
 }

@@ -1,5 +1,6 @@
 -- What holds of a unit's OBUs, and of what goes out for them. Assumes nothing.
 --     kept-inside   a kept OBU lies in its unit: its size is at least 1 and at most the unit's length, and so on (Inside)
+--     kept-small    its header and extension byte are bytes
 --     sent-length   what is sent of it has its size
 --     wire-sent     what a receiver makes of that: bit 1 set, extension byte, shortest size field, payload
 --     wire-small    for all kept OBUs of a unit that is at most the unit's length plus 3 bytes
@@ -9,16 +10,16 @@ use native.Mathlib.Omega.{arith}
 use mathlib.Core.List.{List, [], _∷_, _++_, map, flatMap}
 use mathlib.Core.Bool.{Bool, true, false, cond}
 use mathlib.Core.Logic.{⊎-elim}
-use lib.ListN.{length, take, drop, length-append, length-drop}
+use lib.ListN.{length, getD, take, drop, length-append, length-drop}
 use lib.Seq.{length-take-le}
-use lib.Dec.{eqb}
+use lib.Dec.{leb, eqb}
 use lib.Pow.{shr-shr}
 use borrow.Author.Tests.{eq-eqb, ne-eqb, eqb-true, eqb-false}
 use Rattle.base.specs.Answers.{Answer, given, refused}
 use Rattle.base.specs.Lists.{keep, All}
 use Rattle.base.proofs.Lists.{all-keep}
 use Rattle.base.proofs.Tests.{by-cond}
-use Rattle.leb128.specs.Field.{encode}
+use Rattle.leb128.specs.Field.{Field, sized, unreadable, sizeField, encode}
 use Rattle.leb128.proofs.Theorems.{size-most}
 use Rattle.obu.specs.Header.{typeOf, extensionBit, sizeBit, headerSize, cleared, marked, drops}
 use Rattle.obu.specs.Front.{Front, startOf, spanOf, Seen, found, stopped, sizedBy, headed, extended, frontOf}
@@ -34,21 +35,72 @@ pub record Inside (total : ℕ) (p : Placed) : Type 0 where
   pub within : p .obu .start + p .obu .length ≤ total
   pub size : p .obu .size ≡ headerSize (p .obu .header) + p .obu .length
 
-inside-next : (at total : ℕ) (l : List ℕ) (s : Seen) (rest : ℕ → Scan) → Spans l s → at + length l ≡ total → ((n : ℕ) → All (Inside total) (rest n .obus))
-    → All (Inside total) (followed at s rest .obus)
-inside-next at total l (stopped n) rest s e r = tt
-inside-next at total l (found f) rest s e r = (record { start = refl; within = omega arith; size = refl }, r (spanOf f))
+-- what holds of every OBU that is found, if it follows from something that holds of the bytes and of each tail of them
+module _ (P : Placed → Type 0) (Q : List ℕ → ℕ → Type 0) (tail : (b : ℕ) (l : List ℕ) (at : ℕ) → Q (b ∷ l) at → Q l (at + 1))
+    (so : (l : List ℕ) (at : ℕ) (f : Front) → Q l at → found f ≡ frontOf l → P (placed at f))
+  where
+    all-next : (at : ℕ) (l : List ℕ) (s : Seen) (rest : ℕ → Scan) → s ≡ frontOf l → Q l at → ((n : ℕ) → All P (rest n .obus)) → All P (followed at s rest .obus)
+    all-next at l (stopped n) rest e q r = tt
+    all-next at l (found f) rest e q r = (so l at f q e, r (spanOf f))
 
-inside-from : (l : List ℕ) (skip at total : ℕ) → at + length l ≡ total → All (Inside total) (scanFrom l skip at .obus)
-unfolding scanFrom
-inside-from [] skip at total e = tt
-inside-from (b ∷ l) (suc skip) at total e = inside-from l skip (at + 1) total (omega arith)
-inside-from (b ∷ l) zero at total e =
-    inside-next at total (b ∷ l) (frontOf (b ∷ l)) (λ n. scanFrom l (n - 1) (at + 1)) (front-spans (b ∷ l)) e
-    (λ n. inside-from l (n - 1) (at + 1) total (omega arith))
+    scan-all : (l : List ℕ) (skip at : ℕ) → Q l at → All P (scanFrom l skip at .obus)
+    unfolding scanFrom
+    scan-all [] skip at q = tt
+    scan-all (b ∷ l) (suc skip) at q = scan-all l skip (at + 1) (tail b l at q)
+    scan-all (b ∷ l) zero at q =
+        all-next at (b ∷ l) (frontOf (b ∷ l)) (λ n. scanFrom l (n - 1) (at + 1)) refl q (λ n. scan-all l (n - 1) (at + 1) (tail b l at q))
+
+inside-found : (total : ℕ) (l : List ℕ) (at : ℕ) (f : Front) → at + length l ≡ total → found f ≡ frontOf l → Inside total (placed at f)
+inside-found total l at f q e =
+    let s : Spans l (found f) = subst (Spans l) (sym e) (front-spans l) in
+    record { start = refl; within = omega arith; size = refl }
 
 pub kept-inside : (unit : List ℕ) → All (Inside (length unit)) (keptOf unit)
-kept-inside unit = all-keep (Inside (length unit)) isKept (scanOf unit .obus) (inside-from unit 0 0 (length unit) (omega arith))
+kept-inside unit =
+    all-keep (Inside (length unit)) isKept (scanOf unit .obus)
+    (scan-all (Inside (length unit)) (λ (l : List ℕ) (at : ℕ). at + length l ≡ length unit) (λ b l at q. omega arith) (inside-found (length unit)) unit 0 0 (omega arith))
+
+-- header and extension byte are bytes of the unit, or 0
+abbrev pub Bytes : List ℕ → Type 0
+Bytes l = (i : ℕ) → getD l i 0 < 256
+
+abbrev SmallFront : Seen → Type 0
+SmallFront (found f) = (f .header < 256) × (f .extension < 256)
+SmallFront (stopped n) = Unit {0}
+
+small-sized : (h e left : ℕ) (f : Field) → h < 256 → e < 256 → SmallFront (sizedBy h e left f)
+small-sized h e left (unreadable k) a b = tt
+small-sized h e left (sized v k) a b = by-cond SmallFront (leb v (left - k)) _ _ (λ t. (a, b)) (λ t. tt)
+
+small-headed : (h e : ℕ) (rest : List ℕ) → h < 256 → e < 256 → SmallFront (headed h e rest)
+unfolding headed
+small-headed h e rest a b =
+    by-cond SmallFront (eqb (sizeBit h) 1) _ _
+    (λ s. by-cond SmallFront (eqb (length rest) 0) _ _ (λ t. tt) (λ t. small-sized h e (length rest) (sizeField rest) a b))
+    (λ s. (a, b))
+
+small-front : (l : List ℕ) → Bytes l → SmallFront (frontOf l)
+unfolding frontOf
+small-front [] q = tt
+small-front (h ∷ l) q = by-cond SmallFront (eqb (extensionBit h) 1) (extended h l) (headed h 0 l) (λ t. second l q) (λ t. small-headed h 0 l (q 0) (omega arith))
+  where
+    second : (m : List ℕ) → Bytes (h ∷ m) → SmallFront (extended h m)
+    second [] r = tt
+    second (e ∷ m) r = small-headed h e m (r 0) (r 1)
+
+pub record Small (p : Placed) : Type 0 where
+  pub header : p .obu .header < 256
+  pub extension : p .obu .extension < 256
+
+small-found : (l : List ℕ) (at : ℕ) (f : Front) → Bytes l → found f ≡ frontOf l → Small (placed at f)
+small-found l at f q e =
+    let s : SmallFront (found f) = subst SmallFront (sym e) (small-front l q) in
+    record { header = s .0; extension = s .1 }
+
+pub kept-small : (unit : List ℕ) → Bytes unit → All Small (keptOf unit)
+kept-small unit q =
+    all-keep Small isKept (scanOf unit .obus)
+    (scan-all Small (λ (l : List ℕ) (at : ℕ). Bytes l) (λ b l at r i. r (suc i)) small-found unit 0 0 q)
 
 pub inside-size : (total : ℕ) (p : Placed) → Inside total p → (1 ≤ p .obu .size) × (p .obu .size ≤ total)
 inside-size total p i = omega arith
@@ -68,13 +120,13 @@ cleared-bits h =
     let z : k / 2 % 2 ≡ 0 = omega arith in
     (z, ap (λ (x : ℕ). x % 2) f, ap (λ (x : ℕ). x % 16) g, omega arith)
 
-extension-length : (h e : ℕ) → length (extensionBytes h e) ≡ extensionBit h
+pub extension-length : (h e : ℕ) → length (extensionBytes h e) ≡ extensionBit h
 extension-length h e =
     by-cond (λ (l : List ℕ). length l ≡ extensionBit h) (eqb (extensionBit h) 1) (e ∷ []) []
     (λ t. sym (eqb-true (extensionBit h) 1 t))
     (λ t. let n : (extensionBit h ≡ 1 → ⊥) = eqb-false (extensionBit h) 1 t in omega arith)
 
-payload-length : (unit : List ℕ) (o : Obu) → o .start + o .length ≤ length unit → length (payloadOf unit o) ≡ o .length
+pub payload-length : (unit : List ℕ) (o : Obu) → o .start + o .length ≤ length unit → length (payloadOf unit o) ≡ o .length
 payload-length unit o h = length-take-le (o .length) (drop (o .start) unit) (omega (arith, length-drop (o .start) unit))
 
 pub sent-length : (unit : List ℕ) (p : Placed) → Inside (length unit) p → length (sent unit (p .obu)) ≡ p .obu .size

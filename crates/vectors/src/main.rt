@@ -1,7 +1,8 @@
 // Answers cases, a line each: it replays the fixed list of answers in the gate, and compare/ feeds it many units.
 //
 // A case is the number of numbers in the lent OBU list, in decimal, a blank, and the unit in hexadecimal capitals, or `-` if
-// it is empty. Its answer is `obus`, their count and their records, or `refused`, the number and the offset.
+// it is empty; `*` and a decimal number after it say that its last byte is repeated until it has so many bytes. Its answer is
+// `obus`, their count and their records, or `refused`, the number and the offset.
 use libc::STDIN_FILENO;
 use libc::STDOUT_FILENO;
 use obu::ObuList;
@@ -12,13 +13,17 @@ const UNIT_STORE: usize = 1048577;
 
 const LIST_STORE: usize = 20480;
 
-// What was read of a line: the list's length, whether the blank has come, the first half of a byte if it has, the unit's length.
+// What was read of a line: the list's length, whether the blank has come, the first half of a byte if it has, the unit's length,
+// its last byte, whether the star has come, and the number after it.
 struct Line {
     numbers: usize,
     blank: bool,
     half: bool,
     high: u8,
     length: usize,
+    last: u8,
+    star: bool,
+    repeated: usize,
 }
 
 fn empty_line() -> Line {
@@ -28,6 +33,9 @@ fn empty_line() -> Line {
         half: false,
         high: 0,
         length: 0,
+        last: 0,
+        star: false,
+        repeated: 0,
     }
 }
 
@@ -35,6 +43,15 @@ fn smaller(a: usize, b: usize) -> usize
     ensures { λ r. ⌜ (r ≤ a) × (r ≤ b) ⌝ }
 {
     if a < b { a } else { b }
+}
+
+fn larger(a: usize, b: usize) -> usize {
+    if a < b { b } else { a }
+}
+
+// A decimal number with one digit more.
+fn longer(n: usize, b: u8) -> usize {
+    n % 10000000 * 10 + digit(b) as usize
 }
 
 // The value of a digit, decimal or hexadecimal; 0 for another byte.
@@ -60,6 +77,15 @@ fn digit(b: u8) -> u8
 fn put_byte(unit: &mut [u8], at: usize, b: u8) {
     if at < unit.len() {
         unit[at] = b;
+    }
+}
+
+// The bytes from `from` up to `to`, as far as there is space.
+fn repeat_byte(unit: &mut [u8], from: usize, to: usize, b: u8) {
+    let mut at = from;
+    while at < to {
+        put_byte(unit, at, b);
+        at += 1;
     }
 }
 
@@ -115,7 +141,8 @@ fn answer(unit: &[u8], list: &mut [u32]) {
 }
 
 fn end_of_line(line: Line, unit: &mut [u8], list: &mut [u32]) {
-    let length = smaller(line.length, unit.len());
+    repeat_byte(unit, line.length, line.repeated, line.last);
+    let length = smaller(larger(line.length, line.repeated), unit.len());
     let numbers = smaller(line.numbers, list.len());
     answer(&unit[..length], &mut list[..numbers]);
 }
@@ -135,7 +162,15 @@ fn step(line: Line, b: u8, unit: &mut [u8], list: &mut [u32]) -> Line {
         return next;
     }
     if !line.blank {
-        next.numbers = line.numbers % 100000 * 10 + digit(b) as usize;
+        next.numbers = longer(line.numbers, b);
+        return next;
+    }
+    if b == 42 {
+        next.star = true;
+        return next;
+    }
+    if line.star {
+        next.repeated = longer(line.repeated, b);
         return next;
     }
     if !line.half {
@@ -144,8 +179,10 @@ fn step(line: Line, b: u8, unit: &mut [u8], list: &mut [u32]) -> Line {
         return next;
     }
     let at = smaller(line.length, UNIT_STORE);
-    put_byte(unit, at, line.high % 16 * 16 + digit(b));
+    let byte = line.high % 16 * 16 + digit(b);
+    put_byte(unit, at, byte);
     next.half = false;
+    next.last = byte;
     next.length = at + 1;
     next
 }

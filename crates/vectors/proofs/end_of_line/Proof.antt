@@ -7,7 +7,15 @@ use Rattle.vectors.proofs.end_of_line.Tie as tie
 use Rattle.vectors.proofs.end_of_line.Reads as reads
 use Rattle.vectors.proofs.end_of_line.Lts as lts
 use Rattle.vectors.proofs.answer.Reads as answer-reads
+use Rattle.vectors.proofs.larger.Reads as larger-reads
+use Rattle.vectors.proofs.repeat_byte.Reads as repeat-byte-reads
 use Rattle.vectors.proofs.smaller.Reads as smaller-reads
+
+repeat-byte-requires : tie.Need-repeat-byte-requires
+repeat-byte-requires c κs = search needs
+
+larger-requires : tie.Need-larger-requires
+larger-requires c κs = search needs
 
 smaller-requires : tie.Need-smaller-requires
 smaller-requires c κs = search needs
@@ -19,13 +27,13 @@ slice-reshare-prefix-answer : tie.Need-slice-reshare-prefix-answer
 slice-reshare-prefix-answer c = search needs
 
 slice-aggregate-answer : tie.Need-slice-aggregate-answer
-slice-aggregate-answer c = sym (length-take-le (c .before .before .smaller .result) (c .before .before .before .before .before .args .unit .now) (omega arith))
+slice-aggregate-answer c = sym (length-take-le (c .before .before .smaller .result) (c .before .before .before .before .before .before .repeat-byte .last .0) (omega arith))
 
 slice-relend-prefix-answer : tie.Need-slice-relend-prefix-answer
 slice-relend-prefix-answer c = search needs
 
 slice-aggregate-answer-2 : tie.Need-slice-aggregate-answer-2
-slice-aggregate-answer-2 c = sym (length-take-le (c .before .before .smaller2 .result) (c .before .before .before .before .before .before .args .list .now) (omega arith))
+slice-aggregate-answer-2 c = sym (length-take-le (c .before .before .smaller2 .result) (c .before .before .before .before .before .before .before .before .before .before .before .args .list .now) (omega arith))
 
 answer-requires : tie.Need-answer-requires
 answer-requires c κs = search needs
@@ -43,6 +51,8 @@ pub end-of-line-spec : {M : Type 1} → statement M
 end-of-line-spec =
     tie.close
     (tie.spec
+    repeat-byte-requires
+    larger-requires
     smaller-requires
     smaller-requires-2
     slice-reshare-prefix-answer

@@ -1,0 +1,8 @@
+-- What the proofs of the functions, and of callers, cite.
+pub mod Rows
+pub mod Reading
+pub mod Laws
+pub mod Order
+pub mod Walking
+pub mod Outcomes
+pub mod Carried

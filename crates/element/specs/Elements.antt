@@ -1,0 +1,98 @@
+-- The elements of a payload, and element k (E1 to E8, R13, R15 to R17).
+use Prim.Native.Nat.{ℕ, zero, suc, _+_, _-_}
+use mathlib.Core.List.{List, [], _∷_}
+use mathlib.Core.Bool.{Bool, true, cond, not, _&&_}
+use lib.ListN.{length, getD, take, drop}
+use lib.Dec.{ltb, eqb}
+use Rattle.base.specs.Answers.{Answer, given, refused}
+use Rattle.leb128.specs.Field.{Field, sized, unreadable, sizeField}
+use Rattle.element.specs.Header.{zBit, wOf, nBit}
+use Rattle.element.specs.declared.Part.{Part}
+
+-- L3
+abbrev pub payloadLimit : ℕ
+payloadLimit = 65533
+
+-- the bytes of an element
+abbrev pub bytesOf : List ℕ → Part → List ℕ
+bytesOf payload p = take (p .length) (drop (p .start) payload)
+
+-- ---- one element, which begins at `at`, with so many bytes left
+
+-- by its length field
+abbrev pub counted : ℕ → ℕ → Field → Answer Part
+counted at left (sized v n) =
+    cond (eqb v 0)
+    (refused 17 at)
+    (cond (ltb (left - n) v) (refused 17 at) (given (record { start = at + n; length = v; next = at + n + v })))
+counted at left (unreadable k) = refused 16 at
+
+-- all that is left
+abbrev pub remaining : ℕ → ℕ → Answer Part
+remaining at left = cond (eqb left 0) (refused 17 at) (given (record { start = at; length = left; next = at + left }))
+
+-- these bytes being left: with a length field, or without one
+unfoldable pub elementAt : Bool → ℕ → List ℕ → Answer Part
+elementAt field at l = cond field (counted at (length l) (sizeField l)) (remaining at (length l))
+
+-- ---- all elements, in order, or the leftmost fault
+
+-- an element, and then those from its next cursor on
+abbrev pub first : Part → Answer (List Part) → Answer (List Part)
+first p (given ps) = given (p ∷ ps)
+first p (refused n at) = refused n at
+
+abbrev pub followed : Answer Part → (ℕ → Answer (List Part)) → Answer (List Part)
+followed (given p) rest = first p (rest (p .next))
+followed (refused n at) rest = refused n at
+
+-- E2: elements with a length field until the end. Of the bytes from `at` on, the first `skip` belong to the element before
+unfoldable pub untilEnd : List ℕ → ℕ → ℕ → Answer (List Part)
+untilEnd [] skip at = given []
+untilEnd (b ∷ l) (suc skip) at = untilEnd l skip (at + 1)
+untilEnd (b ∷ l) zero at = followed (elementAt true at (b ∷ l)) (λ next. untilEnd l (next - at - 1) (at + 1))
+
+-- E3: so many elements, each but the last with a length field
+unfoldable pub exactly : ℕ → List ℕ → ℕ → Answer (List Part)
+exactly zero l at = given []
+exactly (suc n) l at = followed (elementAt (not (eqb n 0)) at l) (λ next. exactly n (drop (next - at) l) next)
+
+-- E5: by W, on the bytes after the header
+unfoldable pub counting : ℕ → List ℕ → Answer (List Part)
+counting w l = cond (eqb w 0) (cond (eqb (length l) 0) (refused 17 1) (untilEnd l 0 1)) (exactly w l 1)
+
+-- of a payload, whose first byte is its header: R15, then the elements
+unfoldable pub elementsOf : List ℕ → Answer (List Part)
+elementsOf [] = refused 13 0
+elementsOf (h ∷ l) = cond (eqb (zBit h) 1 && eqb (nBit h) 1) (refused 15 0) (counting (wOf h) l)
+
+-- the same after R13
+unfoldable pub payloadElements : List ℕ → Answer (List Part)
+payloadElements payload = cond (ltb payloadLimit (length payload)) (refused 13 0) (elementsOf payload)
+
+-- ---- what a walk from element to element goes by
+
+-- after n elements, with so many bytes left: whether a further one is due
+abbrev pub isDue : ℕ → ℕ → ℕ → Bool
+isDue w n left = cond (eqb w 0) (ltb 0 left) (ltb n w)
+
+-- whether element n has a length field
+abbrev pub hasField : ℕ → ℕ → Bool
+hasField w n = not (eqb (n + 1) w)
+
+-- ---- element k (E7, E8)
+
+-- the empty part at the payload's start
+abbrev pub nowhere : Part
+nowhere = record { start = 0; length = 0; next = 0 }
+
+abbrev pub chosen : ℕ → Answer (List Part) → Part
+chosen k (given ps) = getD ps k nowhere
+chosen k (refused n at) = nowhere
+
+abbrev pub elementOf : List ℕ → ℕ → Part
+elementOf payload k = chosen k (payloadElements payload)
+
+-- so many bytes behind a place in memory, which is a block and an offset in it
+abbrev pub placeAt : ℕ × ℕ → ℕ → ℕ × ℕ
+placeAt p n = (p .0, n + p .1)

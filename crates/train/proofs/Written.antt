@@ -1,0 +1,120 @@
+-- A written train reads back, over the width of the length field. Assumes nothing.
+--     records-then   written records, and then anything: reading gives them, and goes on with the rest
+--     written-read   a train reads back as the same packets
+use mathlib.Core.Path.{_≡_, refl, sym, ap, ap₂, _∙_}
+use Prim.Native.Nat.{ℕ, zero, suc, _+_, _-_, _^_, _≤_, _<_}
+use native.Mathlib.Omega.{arith}
+use mathlib.Core.List.{List, [], _∷_, _++_, append-nil, append-assoc, flatMap}
+use lib.ListN.{length, take, drop, length-append}
+use lib.Seq.{take-at, drop-at}
+use Rattle.base.specs.Answers.{given}
+use Rattle.train.specs.Bytes.{bigEndian, valueOf}
+use Rattle.train.specs.Train.{Packet, ended, trainVersion, numberWidth, stated, lengthOf, Front, holds, bodyOf, frontBy, frontOf, headBytes, recordBytes, packetIn, followed, recordsFrom, recordsOf, headOf, trainOf, trainIn}
+use Rattle.train.specs.declared.RecordHead.{RecordHead}
+use Rattle.train.proofs.Numbers.{big-length, value-back}
+use Rattle.train.proofs.Reading.{length-stated, body-found}
+use Rattle.train.proofs.Stepping.{records-step, before}
+
+-- ---- what is written reads back
+
+-- a packet that a record of this width can hold: a 16-bit number, one byte or more, and a length that the field can state
+pub record Fits (w : ℕ) (p : Packet) : Type 0 where
+  pub numbered : p .number < 65536
+  pub some : 1 ≤ length (p .payload)
+  pub short : numberWidth + length (p .payload) < 256 ^ w
+
+abbrev pub AllFit : ℕ → List Packet → Type 0
+AllFit w [] = Unit {0}
+AllFit w (p ∷ ps) = Fits w p × AllFit w ps
+
+width-some : (w : ℕ) (p : Packet) → Fits w p → 1 ≤ w
+width-some zero p f = absurd (omega (arith, f .short))
+width-some (suc w) p f = omega arith
+
+-- the length that a record of these packets states
+abbrev statedBy : Packet → ℕ
+statedBy p = numberWidth + length (p .payload)
+
+abbrev writtenHead : ℕ → Packet → RecordHead
+writtenHead w p = record { number = p .number; start = 0 + w + numberWidth; length = statedBy p - numberWidth }
+
+module _ (w : ℕ) (p : Packet) (rest : List ℕ) (f : Fits w p) where
+  -- number and payload, and all the bytes
+  after : List ℕ
+  after = bigEndian numberWidth (p .number) ++ (p .payload ++ rest)
+
+  fields : recordBytes w p ++ rest ≡ bigEndian w (statedBy p) ++ after
+  unfolding after
+  fields = simp append-assoc
+
+  after-length : length after ≡ statedBy p + length rest
+  unfolding after
+  after-length = simp length-append (omega (arith, big-length numberWidth (p .number)))
+
+  length-written : lengthOf w (bigEndian w (statedBy p) ++ after) ≡ stated (statedBy p)
+  length-written =
+      let l : List ℕ = bigEndian w (statedBy p) ++ after in
+      let a : length l ≡ w + length after = length-append (bigEndian w (statedBy p)) after ∙ omega (arith, big-length w (statedBy p)) in
+      let v : valueOf (take w l) ≡ statedBy p =
+      ap valueOf (take-at (bigEndian w (statedBy p)) after w (big-length w (statedBy p))) ∙ value-back w (statedBy p) (f .short) in
+      let k : length after ≡ statedBy p + length rest = after-length in
+      sym (length-stated w l (λ e. omega (arith, f .some)) (statedBy p) (omega arith) (sym v) (omega (arith, f .some)))
+
+  body-written : bodyOf (statedBy p) (0 + w) after ≡ holds (writtenHead w p)
+  unfolding after
+  body-written =
+      let v : valueOf (take numberWidth after) ≡ p .number =
+      ap valueOf (take-at (bigEndian numberWidth (p .number)) (p .payload ++ rest) numberWidth (big-length numberWidth (p .number)))
+      ∙ value-back numberWidth (p .number) (f .numbered) in
+      let k : length after ≡ statedBy p + length rest = after-length in
+      sym (body-found (statedBy p) (0 + w) after (p .number) (omega arith) (sym v))
+
+  front-written : frontOf w 0 (recordBytes w p ++ rest) ≡ holds (writtenHead w p)
+  front-written =
+      let l : List ℕ = bigEndian w (statedBy p) ++ after in
+      ap (frontOf w 0) fields
+      ∙ ap (frontBy w 0 l) length-written
+      ∙ ap (bodyOf (statedBy p) (0 + w)) (drop-at (bigEndian w (statedBy p)) after w (big-length w (statedBy p)))
+      ∙ body-written
+
+  head-size : length (headBytes w (statedBy p) (p .number)) ≡ 0 + w + numberWidth
+  head-size =
+      length-append (bigEndian w (statedBy p)) (bigEndian numberWidth (p .number))
+      ∙ omega (arith, big-length w (statedBy p), big-length numberWidth (p .number))
+
+  packet-written : packetIn (recordBytes w p ++ rest) (writtenHead w p) ≡ p
+  packet-written =
+      let n : statedBy p - numberWidth ≡ length (p .payload) = omega arith in
+      ap (λ (l : List ℕ). record { number = p .number; payload = l })
+      (ap (λ (l : List ℕ). take (statedBy p - numberWidth) (drop (0 + w + numberWidth) l)) (append-assoc (headBytes w (statedBy p) (p .number)) (p .payload) rest)
+      ∙ ap (take (statedBy p - numberWidth)) (drop-at (headBytes w (statedBy p) (p .number)) (p .payload ++ rest) (0 + w + numberWidth) head-size)
+      ∙ take-at (p .payload) rest (statedBy p - numberWidth) (sym n))
+
+  rest-written : drop (0 + w + numberWidth + (statedBy p - numberWidth)) (recordBytes w p ++ rest) ≡ rest
+  rest-written =
+      drop-at (recordBytes w p) rest (0 + w + numberWidth + (statedBy p - numberWidth))
+      (length-append (headBytes w (statedBy p) (p .number)) (p .payload) ∙ omega (arith, head-size))
+
+  pub record-then : recordsOf w (recordBytes w p ++ rest) ≡ before p (recordsOf w rest)
+  record-then =
+      records-step w (recordBytes w p ++ rest)
+      ∙ ap (λ (x : Front). followed (recordBytes w p ++ rest) x (λ n. recordsOf w (drop n (recordBytes w p ++ rest)))) front-written
+      ∙ ap₂ before packet-written (ap (recordsOf w) rest-written)
+
+pub records-then : (w : ℕ) (ps : List Packet) (rest : List ℕ) → AllFit w ps
+    → recordsOf w (flatMap (recordBytes w) ps ++ rest)
+    ≡ record { packets = ps ++ recordsOf w rest .packets; stop = recordsOf w rest .stop }
+unfolding flatMap
+records-then w [] rest f = refl
+records-then w (p ∷ ps) rest f =
+    ap (recordsOf w) (append-assoc (recordBytes w p) (flatMap (recordBytes w) ps) rest)
+    ∙ record-then w p (flatMap (recordBytes w) ps ++ rest) (f .0)
+    ∙ ap (before p) (records-then w ps rest (f .1))
+
+pub written-read : (w : ℕ) (ps : List Packet) → AllFit w ps → trainIn w (trainOf w trainVersion ps) ≡ given (record { packets = ps; stop = ended })
+unfolding headOf recordsFrom
+written-read w ps f =
+    ap given
+    (ap (recordsOf w) (sym (append-nil (flatMap (recordBytes w) ps)))
+    ∙ records-then w ps [] f
+    ∙ ap (λ (qs : List Packet). record { packets = qs; stop = ended }) (append-nil ps))

@@ -1,0 +1,25 @@
+-- The number and values that the rules have for each answer of the code.
+use Prim.Native.Nat.{ℕ}
+use Rattle.base.specs.Refusals.{numberOf}
+use Rattle.base.specs.Answers.{Answer, given, refused}
+use Rattle.train.specs.Train as train
+use Rattle.train.specs.declared.HeadRead.{HeadRead}
+use Rattle.train.specs.declared.HeadRead.the-variants as head
+use Rattle.train.specs.declared.LengthRead.{LengthRead}
+use Rattle.train.specs.declared.LengthRead.the-variants as length
+use Rattle.train.specs.declared.RecordRead.{RecordRead}
+use Rattle.train.specs.declared.RecordRead.the-variants as found
+
+abbrev pub paperHead : HeadRead → Answer ℕ
+paperHead (head.Train h) = given (h .version)
+paperHead (head.Refused r) = refused (numberOf r) 0
+
+abbrev pub paperLength : LengthRead → train.Length
+paperLength length.End = train.over
+paperLength (length.Stated s) = train.stated (s .bytes)
+paperLength (length.Refused r) = train.bad (numberOf r)
+
+abbrev pub paperRecord : RecordRead → train.Front
+paperRecord found.End = train.ends
+paperRecord (found.Found h) = train.holds h
+paperRecord (found.Refused r) = train.stops (numberOf r)
