@@ -1,0 +1,7 @@
+pub mod Rows
+pub mod Bits
+pub mod Flat
+pub mod Calls
+pub mod Laws
+pub mod Headers
+pub mod Callees

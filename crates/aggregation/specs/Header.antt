@@ -1,0 +1,55 @@
+-- The aggregation header of packet k, over the OBU records and the plan records (H1 to H5, H7, R11).
+use Prim.Native.Nat.{ℕ, _+_, _-_, _*_}
+use mathlib.Core.List.{List}
+use mathlib.Core.Bool.{Bool, cond, _&&_, _||_}
+use lib.ListN.{length, getD}
+use lib.Dec.{ltb, leb, eqb}
+use Rattle.base.specs.Answers.{Answer, given, refused}
+use Rattle.obu.specs.Header.{typeOf}
+use Rattle.obu.specs.declared.Obu.{Obu}
+use Rattle.packetizer.specs.Plan.{mostCounted, newPacket}
+use Rattle.packetizer.specs.declared.PacketMetadata.{PacketMetadata}
+
+-- what stands past the end of a list
+abbrev pub noObu : Obu
+noObu = record { header = 0; extension = 0; start = 0; length = 0; size = 0 }
+
+abbrev pub noPacket : PacketMetadata
+noPacket = newPacket 0
+
+-- the OBU of the packet's last element, and where in it that element starts
+abbrev pub lastObu : PacketMetadata → ℕ
+lastObu p = p .«first_obu_index» + p .«num_obu_elements» - 1
+
+abbrev pub lastStart : PacketMetadata → ℕ
+lastStart p = cond (eqb (p .«num_obu_elements») 1) (p .«first_obu_offset») 0
+
+-- Z: the first element goes on with an OBU that began before (H2)
+abbrev pub zOf : PacketMetadata → ℕ
+zOf p = cond (ltb 0 (p .«first_obu_offset»)) 128 0
+
+-- Y: the last element ends before its OBU, of this size, does (H3)
+abbrev pub yOf : PacketMetadata → ℕ → ℕ
+yOf p size = cond (ltb (lastStart p + p .«last_obu_size») size) 64 0
+
+-- W: how many elements, 0 for four or more (H4)
+abbrev pub wOf : PacketMetadata → ℕ
+wOf p = cond (leb (p .«num_obu_elements») mostCounted) (p .«num_obu_elements») 0
+
+-- N: packet 0, and the first OBU is of type 1 (H5)
+unfoldable pub nOf : List Obu → ℕ → ℕ
+nOf obus k = cond (eqb k 0 && eqb (typeOf (getD obus 0 noObu .header)) 1) 8 0
+
+-- the four together (H1)
+unfoldable pub byteOf : List Obu → PacketMetadata → ℕ → ℕ
+byteOf obus p k = zOf p + yOf p (getD obus (lastObu p) noObu .size) + 16 * wOf p + nOf obus k
+
+-- a record of no element, or with OBUs beyond a list of n
+abbrev pub lacking : ℕ → PacketMetadata → Bool
+lacking n p = eqb (p .«num_obu_elements») 0 || ltb n (p .«first_obu_index» + p .«num_obu_elements»)
+
+unfoldable pub headerOf : List Obu → List PacketMetadata → ℕ → Answer ℕ
+headerOf obus packets k =
+    cond (leb (length packets) k || lacking (length obus) (getD packets k noPacket))
+    (refused 11 0)
+    (given (byteOf obus (getD packets k noPacket) k))

@@ -1,0 +1,75 @@
+-- One OBU placed, by the tests that decide it (P5 to P8). Assumes nothing.
+use mathlib.Core.Path.{_≡_, sym, ap, _∙_}
+use Prim.Native.Nat.{ℕ, _+_, _-_, _≤_, _<_}
+use native.Mathlib.Omega.{arith}
+use mathlib.Core.Bool.{Bool, true, false, cond}
+use mathlib.Core.List.{List, [], _∷_}
+use lib.ListN.{length}
+use borrow.Author.Tests.{lt-ltb, le-ltb, ltb-false}
+use Rattle.base.proofs.Tests.{by-cond}
+use Rattle.packetizer.specs.Plan.{newPacket, leftIn, chargeOf, isFourth, isFull, charged, needOf, withElement, fragmentOf, Placed, filling, closing, cutAt, putIn, spread, insert, place}
+use Rattle.packetizer.specs.Paper.{recorded}
+use Rattle.packetizer.specs.declared.PacketMetadata.{PacketMetadata}
+use Rattle.packetizer.proofs.Stores.{recorded-append}
+
+module _ (room i s : ℕ) (p : PacketMetadata) where
+  -- q is the packet with the charge, f the first fragment
+  pub insert-whole : (q : PacketMetadata) → q ≡ charged p → needOf q s < leftIn room q → insert room i s p ≡ filling (withElement q s)
+  unfolding insert
+  insert-whole q e h =
+      ap (λ (x : PacketMetadata). putIn room i s p x (fragmentOf room x s)) (sym e)
+      ∙ ap (λ (t : Bool). cond t (filling (withElement q s)) (closing (cutAt p q (fragmentOf room q s)) (spread s room i s (fragmentOf room q s))))
+      (lt-ltb (needOf q s) (leftIn room q) h)
+
+  pub insert-cut : (q : PacketMetadata) (f : ℕ) → q ≡ charged p → f ≡ fragmentOf room q s → leftIn room q ≤ needOf q s
+      → insert room i s p ≡ closing (cutAt p q f) (spread s room i s f)
+  unfolding insert
+  insert-cut q f e g h =
+      ap (λ (x : PacketMetadata). putIn room i s p x (fragmentOf room x s)) (sym e)
+      ∙ ap (putIn room i s p q) (sym g)
+      ∙ ap (λ (t : Bool). cond t (filling (withElement q s)) (closing (cutAt p q f) (spread s room i s f))) (le-ltb (needOf q s) (leftIn room q) h)
+
+  pub place-new : (q : PacketMetadata) → q ≡ newPacket i → isFull room p ≡ true → place room i s p ≡ closing p (insert room i s q)
+  unfolding place
+  place-new q e h = rw (h, e)
+
+  pub place-on : isFull room p ≡ false → place room i s p ≡ insert room i s p
+  unfolding place
+  place-on h = rw h
+
+module _ (room : ℕ) (p : PacketMetadata) where
+  -- a packet that is not full has room for the charge and a byte, or two
+  pub not-full : isFull room p ≡ false → chargeOf p + cond (isFourth p) 2 1 ≤ leftIn room p
+  unfolding isFull
+  not-full h = ltb-false (leftIn room p) (chargeOf p + cond (isFourth p) 2 1) h
+
+  pub one-more : isFull room p ≡ false → p .«packet_size» + chargeOf p + 1 ≤ room
+  one-more h =
+      let l : chargeOf p + cond (isFourth p) 2 1 ≤ leftIn room p = not-full h in
+      omega (arith, by-cond (λ (x : ℕ). 1 ≤ x) (isFourth p) 2 1 (λ t. omega arith) (λ t. omega arith))
+
+  pub fragment-below : (s : ℕ) → fragmentOf room p s ≤ s - 1
+  unfolding fragmentOf
+  fragment-below s = omega arith
+
+pub new-free : (i room : ℕ) → 1 ≤ room → isFull room (newPacket i) ≡ false
+unfolding isFull chargeOf
+new-free i room h = le-ltb (room - 0) 1 (omega arith)
+
+-- ---- a packet that is closed, and what comes after it
+
+module _ (store : Bool) (l : List ℕ) (n : ℕ) (p : PacketMetadata) (x y : Placed) (e : x ≡ closing p y) where
+  pub closing-count : n + length (x .closed) ≡ n + 1 + length (y .closed)
+  closing-count = ap (λ (z : Placed). n + length (z .closed)) e ∙ omega arith
+
+  pub closing-stored : (l₁ l₂ : List ℕ) (m : ℕ) (r : PacketMetadata) → l₁ ≡ recorded store l n (p ∷ [])
+      → (r ≡ y .current) × (m ≡ n + 1 + length (y .closed)) × (l₂ ≡ recorded store l₁ (n + 1) (y .closed))
+      → (r ≡ x .current) × (m ≡ n + length (x .closed)) × (l₂ ≡ recorded store l n (x .closed))
+  closing-stored l₁ l₂ m r a h = (
+    h .0 ∙ sym (ap (λ (z : Placed). z .current) e),
+    h .1 ∙ sym closing-count,
+    h .2
+        ∙ ap (λ (k : List ℕ). recorded store k (n + 1) (y .closed)) a
+        ∙ recorded-append store l n (p ∷ []) (y .closed)
+        ∙ sym (ap (λ (z : Placed). recorded store l n (z .closed)) e),
+  )

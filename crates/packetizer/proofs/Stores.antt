@@ -1,0 +1,42 @@
+-- Records stored one after the other in a lent plan list. Assumes nothing.
+use mathlib.Core.Path.{_≡_, refl, sym, ap, _∙_}
+use Prim.Native.Nat.{ℕ, _+_, _*_}
+use native.Mathlib.Numerals.{add-one, add-two, add-three, add-four}
+use native.Mathlib.Omega.{arith}
+use mathlib.Core.Bool.{Bool, true, false}
+use mathlib.Core.List.{List, [], _∷_, _++_, flatMap}
+use lib.ListN.{length, set}
+use lib.Seq.{sets}
+use Rattle.base.proofs.Lists.{sets-append, flatMap-append, flatMap-length}
+use Rattle.packetizer.specs.Plan.{planNumbers, recordNumbers, flatPlan}
+use Rattle.packetizer.specs.Paper.{recorded}
+use Rattle.packetizer.specs.declared.PacketMetadata.{PacketMetadata}
+
+pub flat-length : (ps : List PacketMetadata) → length (flatPlan ps) ≡ length ps * planNumbers
+flat-length ps = flatMap-length recordNumbers planNumbers (λ p. refl) ps
+
+-- the five stores of a record
+pub record-stored : (l : List ℕ) (n : ℕ) (p : PacketMetadata)
+    → set (set (set (set (set l (n * 5) (p .«first_obu_index»)) (n * 5 + 1) (p .«num_obu_elements»)) (n * 5 + 2) (p .«first_obu_offset»)) (n * 5 + 3) (p .«last_obu_size»)) (n * 5 + 4) (p .«packet_size»)
+    ≡ recorded true l n (p ∷ [])
+unfolding flatMap
+record-stored l n p = rw (add-one (n * 5), add-two (n * 5), add-three (n * 5), add-four (n * 5))
+
+module _ (store : Bool) (l : List ℕ) (n : ℕ) where
+  pub recorded-none : l ≡ recorded store l n []
+  unfolding flatMap
+  recorded-none = go store
+    where
+      go : (t : Bool) → l ≡ recorded t l n []
+      go true = refl
+      go false = refl
+
+  pub recorded-append : (ps qs : List PacketMetadata) → recorded store (recorded store l n ps) (n + length ps) qs ≡ recorded store l n (ps ++ qs)
+  recorded-append ps qs = go store
+    where
+      e : n * planNumbers + length (flatPlan ps) ≡ (n + length ps) * planNumbers
+      e = omega (arith, flat-length ps)
+
+      go : (t : Bool) → recorded t (recorded t l n ps) (n + length ps) qs ≡ recorded t l n (ps ++ qs)
+      go true = sym (ap (sets l (n * planNumbers)) (flatMap-append recordNumbers ps qs) ∙ sets-append l (n * planNumbers) (flatPlan ps) (flatPlan qs) ∙ ap (λ (j : ℕ). sets (sets l (n * planNumbers) (flatPlan ps)) j (flatPlan qs)) e)
+      go false = refl

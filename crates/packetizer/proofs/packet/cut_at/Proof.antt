@@ -1,0 +1,16 @@
+use borrow.Author.Tests.{eq-eqb, ne-eqb}
+use borrow.Author.Needs.{needs}
+use Rattle.packetizer.proofs.packet.cut_at.Statement.{statement}
+use Rattle.packetizer.proofs.packet.cut_at.Tie as tie
+
+returns : tie.Need-returns
+returns c = rw (eq-eqb (c .before .args .n) 0 (c .if1 .taken))
+
+with-element-requires : tie.Need-with-element-requires
+with-element-requires c κs = search needs
+
+returns-2 : tie.Need-returns-2
+returns-2 c = rw (ne-eqb (c .before .before .args .n) 0 (c .before .if1 .left)) (c .with-element .ensures)
+
+pub cut-at-spec : {M : Type 1} → statement M
+cut-at-spec = tie.close (tie.spec returns with-element-requires returns-2)

@@ -1,0 +1,6 @@
+pub mod Fragment
+pub mod Plan
+pub mod Elements
+pub mod Call
+pub mod Paper
+pub mod Crate

@@ -1,0 +1,136 @@
+-- The elements of a record, written one after the other: what the loop over them keeps. Assumes nothing.
+use mathlib.Core.Path.{_≡_, refl, sym, ap, ap₂, _∙_}
+use Prim.Native.Nat.{ℕ, zero, suc, _+_, _-_, _*_, _≤_, _<_}
+use native.Mathlib.Numerals.{sub-one}
+use native.Mathlib.Omega.{arith}
+use mathlib.Core.List.{List, [], _∷_, _++_, map}
+use mathlib.Core.Bool.{Bool, true, false, cond}
+use lib.ListN.{length, getD, take, drop, length-append, length-drop, List·getD-map}
+use lib.Seq.{sets, length-take-le}
+use lib.Dec.{eqb}
+use borrow.Author.Tests.{eq-eqb, ne-eqb}
+use Rattle.base.proofs.Lists.{sets-append}
+use Rattle.base.proofs.Tests.{by-cond}
+use Rattle.leb128.specs.Field.{encode}
+use Rattle.obu.specs.Header.{headerSize}
+use Rattle.obu.specs.Wire.{extensionBytes, payloadOf, sent}
+use Rattle.obu.specs.declared.Obu.{Obu}
+use Rattle.obu.proofs.Theorems.{extension-length, payload-length}
+use Rattle.packetizer.specs.Elements.{Element, element, elementsFrom}
+use Rattle.aggregation.specs.Header.{noObu}
+use Rattle.payloader.specs.Payload.{partOf, partsOf, fielded}
+use Rattle.payloader.proofs.Units.{Lies}
+
+abbrev pub sizes : List Obu → List ℕ
+sizes os = map (λ (o : Obu). o .size) os
+
+pub size-at : (os : List Obu) (i : ℕ) → getD (sizes os) i 0 ≡ getD os i noObu .size
+size-at os i = List·getD-map (λ (o : Obu). o .size) os i noObu
+
+pub sent-size : (unit : List ℕ) (o : Obu) → Lies unit o → length (sent unit o) ≡ o .size
+sent-size unit o l =
+    omega (arith, length-append (extensionBytes (o .header) (o .extension)) (payloadOf unit o), extension-length (o .header) (o .extension), payload-length unit o (l .within), l .size)
+
+-- n bytes of what is sent of OBU i
+abbrev pub part : List ℕ → List Obu → ℕ → ℕ → ℕ → List ℕ
+part unit os i from n = take n (drop from (sent unit (getD os i noObu)))
+
+pub part-length : (unit : List ℕ) (os : List Obu) (i from n : ℕ) → Lies unit (getD os i noObu) → from + n ≤ getD os i noObu .size
+    → length (part unit os i from n) ≡ n
+part-length unit os i from n l h =
+    length-take-le n (drop from (sent unit (getD os i noObu))) (omega (arith, length-drop from (sent unit (getD os i noObu)), sent-size unit (getD os i noObu) l))
+
+-- what is written for so many elements, of OBU i and those after it
+abbrev pub body : List ℕ → List Obu → Bool → ℕ → ℕ → ℕ → ℕ → List ℕ
+body unit os flag left i from last = fielded encode flag (partsOf unit os (elementsFrom (sizes os) left i from last))
+
+module _ (unit : List ℕ) (os : List Obu) (flag : Bool) (i from last : ℕ) (l : Lies unit (getD os i noObu)) where
+  pub body-two : (m : ℕ) → from ≤ getD os i noObu .size
+      → body unit os flag (suc (suc m)) i from last
+      ≡ (encode (getD os i noObu .size - from) ++ part unit os i from (getD os i noObu .size - from)) ++ body unit os flag (suc m) (i + 1) 0 last
+  unfolding fielded elementsFrom
+  body-two zero f = rw (size-at os i, part-length unit os i from (getD os i noObu .size - from) l (omega arith))
+  body-two (suc m) f = rw (size-at os i, part-length unit os i from (getD os i noObu .size - from) l (omega arith))
+
+  pub body-more : (left : ℕ) → 1 < left → from ≤ getD os i noObu .size
+      → body unit os flag left i from last
+      ≡ (encode (getD os i noObu .size - from) ++ part unit os i from (getD os i noObu .size - from)) ++ body unit os flag (left - 1) (i + 1) 0 last
+  body-more zero h f = absurd (omega arith)
+  body-more (suc zero) h f = absurd (omega arith)
+  body-more (suc (suc m)) h f = rw sub-one (body-two m f)
+
+  pub body-last : (left : ℕ) → left ≡ 1 → from + last ≤ getD os i noObu .size
+      → body unit os flag left i from last ≡ cond flag (encode last) [] ++ part unit os i from last
+  unfolding fielded elementsFrom
+  body-last left e f = rw (e, part-length unit os i from last l f)
+
+-- ---- what the loop keeps: what is left to write, on the output as it is, gives what all of it gives on the output as it was
+
+pub record Writing (unit : List ℕ) (os : List Obu) (flag : Bool) (last : ℕ) (all out₀ : List ℕ) (at : ℕ) (out : List ℕ) (i from left cursor : ℕ) : Type 0 where
+  pub some : 1 ≤ left
+  pub inside : i + left ≤ length os
+  pub begins : from < getD os i noObu .size
+  pub fits : cond (eqb left 1) from 0 + last ≤ getD os (i + left - 1) noObu .size
+  pub same : length out ≡ length out₀
+  pub room : at + length all ≤ length out₀
+  pub ends : cursor + length (body unit os flag left i from last) ≡ at + length all
+  pub to : sets out cursor (body unit os flag left i from last) ≡ sets out₀ at all
+
+module _ (unit : List ℕ) (os : List Obu) (flag : Bool) (last : ℕ) (all out₀ : List ℕ) (at : ℕ) (out : List ℕ) (i from left cursor : ℕ)
+    (w : Writing unit os flag last all out₀ at out i from left cursor) (l : Lies unit (getD os i noObu))
+  where
+    abbrev pub full : ℕ
+    full = getD os i noObu .size - from
+
+    next-body : 1 < left → body unit os flag left i from last ≡ (encode full ++ part unit os i from full) ++ body unit os flag (left - 1) (i + 1) 0 last
+    next-body h = body-more unit os flag i from last l left h (omega (arith, w .begins))
+
+    next-length : 1 < left → length (body unit os flag left i from last) ≡ length (encode full) + full + length (body unit os flag (left - 1) (i + 1) 0 last)
+    next-length h =
+        ap length (next-body h)
+        ∙ length-append (encode full ++ part unit os i from full) (body unit os flag (left - 1) (i + 1) 0 last)
+        ∙ ap (λ (n : ℕ). n + length (body unit os flag (left - 1) (i + 1) 0 last)) (length-append (encode full) (part unit os i from full) ∙ ap (λ (n : ℕ). length (encode full) + n) (part-length unit os i from full l (omega (arith, w .begins))))
+
+    -- there is space for the next element
+    pub writing-room : 1 < left → cursor + (length (encode full) + full) ≤ length out
+    writing-room h = omega (arith, next-length h, w .ends, w .room, w .same)
+
+    pub writing-next : 1 < left → 1 ≤ getD os (i + 1) noObu .size → (out′ : List ℕ) (cursor′ : ℕ) → length out′ ≡ length out → cursor′ ≡ cursor + (length (encode full) + full)
+        → out′ ≡ sets out cursor (encode full ++ part unit os i from full) → Writing unit os flag last all out₀ at out′ (i + 1) 0 (left - 1) cursor′
+    writing-next h p out′ cursor′ k e r =
+        let n : length (encode full ++ part unit os i from full) ≡ length (encode full) + full =
+        length-append (encode full) (part unit os i from full) ∙ ap (λ (x : ℕ). length (encode full) + x) (part-length unit os i from full l (omega (arith, w .begins))) in
+        let z : i + 1 + (left - 1) - 1 ≡ i + left - 1 = omega arith in
+        let s : cond {A = ℕ} (eqb (left - 1) 1) 0 0 ≡ 0 = by-cond (λ (x : ℕ). x ≡ 0) (eqb (left - 1) 1) 0 0 (λ t. refl) (λ t. refl) in
+        let t : cond (eqb left 1) from 0 ≡ 0 = rw (ne-eqb left 1 (omega arith)) in
+        record {
+          some = omega arith;
+          inside = omega (arith, w .inside);
+          begins = p;
+          fits = rw (z, s) (rw t at (w .fits));
+          same = k ∙ w .same;
+          room = w .room;
+          ends = omega (arith, next-length h, w .ends);
+          to =
+              rw (r, e)
+              (ap (λ (x : ℕ). sets (sets out cursor (encode full ++ part unit os i from full)) (cursor + x) (body unit os flag (left - 1) (i + 1) 0 last)) (sym n)
+              ∙ sym (sets-append out cursor (encode full ++ part unit os i from full) (body unit os flag (left - 1) (i + 1) 0 last))
+              ∙ ap (sets out cursor) (sym (next-body h))
+              ∙ w .to);
+        }
+
+    -- the last element
+    pub last-fits : left ≡ 1 → from + last ≤ getD os i noObu .size
+    last-fits e = let z : i + left - 1 ≡ i = omega arith in rw z at (rw (eq-eqb left 1 e) at (w .fits))
+
+    last-body : left ≡ 1 → body unit os flag left i from last ≡ cond flag (encode last) [] ++ part unit os i from last
+    last-body e = body-last unit os flag i from last l left e (last-fits e)
+
+    pub writing-last : left ≡ 1 → (cursor + (length (cond flag (encode last) []) + last) ≡ at + length all)
+        × (sets out cursor (cond flag (encode last) [] ++ part unit os i from last) ≡ sets out₀ at all)
+    writing-last e =
+        let n : length (cond flag (encode last) [] ++ part unit os i from last) ≡ length (cond flag (encode last) []) + last =
+        length-append (cond flag (encode last) []) (part unit os i from last) ∙ ap (λ (x : ℕ). length (cond flag (encode last) []) + x) (part-length unit os i from last l (last-fits e)) in (
+          ap (λ (x : ℕ). cursor + x) (sym n ∙ ap length (sym (last-body e))) ∙ w .ends,
+          ap (sets out cursor) (sym (last-body e)) ∙ w .to,
+        )

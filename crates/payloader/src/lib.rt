@@ -1,0 +1,255 @@
+// The payload bytes of a unit's packets (Y1 to Y5): list and plan, the test of space, and then packet after packet.
+use aggregation::HeaderAnswer;
+use base::Refusal;
+use obu::Obu;
+use packetizer::PlanAnswer;
+ghost use mathlib.Core.Path.{_≡_};
+ghost use Prim.Native.Nat.{ℕ, _+_, _-_, _*_, _/_, _^_, _≤_, _<_, min};
+ghost use mathlib.Core.Bool.{Bool, cond};
+ghost use mathlib.Core.List.{List, [], _∷_, _++_};
+ghost use lib.ListN.{length, getD, take, drop};
+ghost use lib.Seq.{sets};
+ghost use Rattle.leb128.specs.Field.{encode};
+ghost use Rattle.obu.specs.Header.{headerSize, cleared};
+ghost use Rattle.obu.specs.Unit.{unitLimit, obuNumbers, obusOf, flat};
+ghost use Rattle.obu.specs.Wire.{extensionBytes, sent};
+ghost use Rattle.packetizer.specs.Plan.{planNumbers, flatPlan};
+ghost use Rattle.packetizer.specs.Call.{mtuLimit, unitPlan, obusAfter, planAfter};
+ghost use Rattle.base.specs.Answers.{given};
+ghost use Rattle.aggregation.specs.Header.{noObu, noPacket, byteOf, headerOf};
+ghost use Rattle.aggregation.specs.Flat.{obusIn, packetsIn};
+ghost use Rattle.payloader.specs.Payload.{payload as payloadBytes, plannedBytes, payloadsOf, joined};
+ghost use Rattle.payloader.specs.Call.{payloadAnswer, outAfter};
+ghost use Rattle.payloader.specs.Paper.{paper};
+
+// What was written.
+pub struct Payloads {
+    pub obus: usize,
+    pub packets: usize,
+    pub bytes: usize,
+}
+
+// The answer of the payload call.
+pub enum PayloadAnswer {
+    Written(Payloads),
+    Refused { refusal: Refusal, at: usize },
+}
+
+fn smaller(a: usize, b: usize) -> usize
+    ensures { λ r. ⌜ r ≡ min a b ⌝ }
+{
+    if a < b { a } else { b }
+}
+
+// The difference, or 0.
+fn beyond(a: usize, b: usize) -> usize
+    ensures { λ r. ⌜ r ≡ a - b ⌝ }
+{
+    if a < b { 0 } else { a - b }
+}
+
+// Record i of a flat OBU list.
+fn obu_at(obus: &[u32], i: usize) -> Obu
+    requires { ⌜ ((i + 1) * obuNumbers ≤ length (now obus)) × (getD (obusIn (now obus)) i noObu .header < 256) × (getD (obusIn (now obus)) i noObu .extension < 256) ⌝ }
+    ensures { λ r. ⌜ r ≡ getD (obusIn (now (obus .entry))) i noObu ⌝ }
+{
+    let at = i * obu::OBU_NUMBERS;
+    Obu {
+        header: obus[at] as u8,
+        extension: obus[at + 1] as u8,
+        start: obus[at + 2],
+        length: obus[at + 3],
+        size: obus[at + 4],
+    }
+}
+
+// Header byte i, as it is sent.
+fn head_byte(o: Obu, i: usize) -> u8
+    requires { ⌜ i < headerSize (o .header) ⌝ }
+    ensures { λ r. ⌜ r ≡ getD (cleared (o .header) ∷ extensionBytes (o .header) (o .extension)) i 0 ⌝ }
+{
+    if i == 0 {
+        obu::without_size_bit(o.header)
+    } else {
+        o.extension
+    }
+}
+
+// n of the header bytes, from one on.
+fn put_head(o: Obu, from: usize, n: usize, out: &mut [u8], at: usize)
+    requires { ⌜ (n ≤ headerSize (o .header) - from) × (at + n ≤ length (now out)) ⌝ }
+    ensures { λ _. ⌜ now (out .exit) ≡ sets (now (out .entry)) at (take n (drop from (cleared (o .header) ∷ extensionBytes (o .header) (o .extension)))) ⌝ }
+{
+    let mut i: usize = 0;
+    while i < n {
+        out[at + i] = head_byte(o, from + i);
+        i += 1;
+    }
+}
+
+// n bytes of what is sent of an OBU, from one on: header bytes, and then bytes of the unit.
+fn put_part(unit: &[u8], o: Obu, from: usize, n: usize, out: &mut [u8], at: usize) -> usize
+    requires { ⌜ (o .start + o .length ≤ length (now unit)) × (from + n ≤ headerSize (o .header) + o .length) × (at + n ≤ length (now out)) ⌝ }
+    ensures { λ r. ⌜ (r ≡ at + n) × (now (out .exit) ≡ sets (now (out .entry)) at (take n (drop from (sent (now (unit .entry)) o)))) ⌝ }
+{
+    let head = obu::header_size(o.header);
+    let inside = smaller(n, beyond(head, from));
+    put_head(o, from, inside, out, at);
+    let start = o.start as usize + beyond(from, head);
+    base::copy_bytes(unit, start, n - inside, out, at + inside)
+}
+
+// An element: n bytes of what is sent of OBU i, from one on, with its length in front where told to.
+fn put_element(
+    unit: &[u8],
+    obus: &[u32],
+    i: usize,
+    from: usize,
+    n: usize,
+    field: bool,
+    out: &mut [u8],
+    at: usize,
+) -> usize
+    requires { ⌜ (length (now unit) ≤ unitLimit) × (now obus ≡ flat (obusOf (now unit))) × (i < length (obusOf (now unit))) ⌝ }
+    requires { ⌜ from + n ≤ getD (obusOf (now unit)) i noObu .size ⌝ }
+    requires { ⌜ at + (length (cond field (encode n) []) + n) ≤ length (now out) ⌝ }
+    ensures { λ r. ⌜ (r ≡ at + (length (cond field (encode n) []) + n))
+        × (now (out .exit) ≡ sets (now (out .entry)) at (cond field (encode n) [] ++ take n (drop from (sent (now (unit .entry)) (getD (obusOf (now (unit .entry))) i noObu))))) ⌝ }
+{
+    let o = obu_at(obus, i);
+    if field {
+        let next = leb128::put_leb128(out, at, n as u32);
+        return put_part(unit, o, from, n, out, next);
+    }
+    put_part(unit, o, from, n, out, at)
+}
+
+// The aggregation header of packet k.
+fn header_byte(obus: &[u32], plan: &[u32], k: usize) -> u8
+    requires { ⌜ headerOf (obusIn (now obus)) (packetsIn (now plan)) k ≡ given (byteOf (obusIn (now obus)) (getD (packetsIn (now plan)) k noPacket) k) ⌝ }
+    ensures { λ r. ⌜ r ≡ byteOf (obusIn (now (obus .entry))) (getD (packetsIn (now (plan .entry))) k noPacket) k ⌝ }
+{
+    match aggregation::get_aggregation_header(obus, plan, k) {
+        HeaderAnswer::Header(header) => header,
+        HeaderAnswer::Refused(_) => 0,
+    }
+}
+
+// The size of OBU i.
+fn size_at(obus: &[u32], i: usize) -> usize
+    requires { ⌜ (i + 1) * obuNumbers ≤ length (now obus) ⌝ }
+    ensures { λ r. ⌜ r ≡ getD (obusIn (now (obus .entry))) i noObu .size ⌝ }
+{
+    let at = i * obu::OBU_NUMBERS + 4;
+    obus[at] as usize
+}
+
+// Writes packet k of a unit's plan at the cursor `at`, and returns the cursor after it.
+pub fn write_packet(
+    mtu: usize,
+    unit: &[u8],
+    obus: &[u32],
+    plan: &[u32],
+    k: usize,
+    out: &mut [u8],
+    at: usize,
+) -> usize
+    requires { ⌜ (length (now unit) ≤ unitLimit) × (now obus ≡ flat (obusOf (now unit))) × (now plan ≡ flatPlan (unitPlan mtu (now unit))) × (k < length (unitPlan mtu (now unit))) ⌝ }
+    requires { ⌜ at + length (payloadBytes encode (now unit) (obusOf (now unit)) k (getD (unitPlan mtu (now unit)) k noPacket)) ≤ length (now out) ⌝ }
+    ensures { λ r. ⌜ (r ≡ at + length (payloadBytes encode (now (unit .entry)) (obusOf (now (unit .entry))) k (getD (unitPlan mtu (now (unit .entry))) k noPacket)))
+        × (now (out .exit) ≡ sets (now (out .entry)) at (payloadBytes encode (now (unit .entry)) (obusOf (now (unit .entry))) k (getD (unitPlan mtu (now (unit .entry))) k noPacket))) ⌝ }
+{
+    let p = aggregation::packet_at(plan, k);
+    out[at] = header_byte(obus, plan, k);
+    let mut cursor = at + 1;
+    let mut left = p.num_obu_elements as usize;
+    let mut i = p.first_obu_index as usize;
+    let mut from = p.first_obu_offset as usize;
+    while left > 1 {
+        let n = size_at(obus, i) - from;
+        cursor = put_element(unit, obus, i, from, n, true, out, cursor);
+        i += 1;
+        from = 0;
+        left -= 1;
+    }
+    let field = p.num_obu_elements > packetizer::MAX_NUM_OBUS_TO_OMIT_SIZE;
+    put_element(
+        unit,
+        obus,
+        i,
+        from,
+        p.last_obu_size as usize,
+        field,
+        out,
+        cursor,
+    )
+}
+
+// How many bytes the payloads of a plan take together.
+fn planned_bytes(plan: &[u32]) -> usize
+    requires { ⌜ plannedBytes (packetsIn (now plan)) < 2 ^ 64 ⌝ }
+    ensures { λ r. ⌜ r ≡ plannedBytes (packetsIn (now (plan .entry))) ⌝ }
+{
+    let packets = plan.len() / packetizer::PLAN_NUMBERS;
+    let mut bytes: usize = 0;
+    let mut k: usize = 0;
+    while k < packets {
+        let p = aggregation::packet_at(plan, k);
+        bytes = bytes + (p.packet_size as usize + 1);
+        k += 1;
+    }
+    bytes
+}
+
+// Writes all packets of a unit's plan, one after the other.
+fn write_packets(mtu: usize, unit: &[u8], obus: &[u32], plan: &[u32], out: &mut [u8])
+    requires { ⌜ (length (now unit) ≤ unitLimit) × (now obus ≡ flat (obusOf (now unit))) × (now plan ≡ flatPlan (unitPlan mtu (now unit))) ⌝ }
+    requires { ⌜ length (joined (payloadsOf mtu (now unit))) ≤ length (now out) ⌝ }
+    ensures { λ _. ⌜ now (out .exit) ≡ sets (now (out .entry)) 0 (joined (payloadsOf mtu (now (unit .entry)))) ⌝ }
+{
+    let packets = plan.len() / packetizer::PLAN_NUMBERS;
+    let mut at: usize = 0;
+    let mut k: usize = 0;
+    while k < packets {
+        at = write_packet(mtu, unit, obus, plan, k, out, at);
+        k += 1;
+    }
+}
+
+// List, plan and payloads of a unit.
+pub fn payload(
+    mtu: usize,
+    unit: &[u8],
+    obus: &mut [u32],
+    plan: &mut [u32],
+    out: &mut [u8],
+) -> PayloadAnswer
+    ensures { λ r. ⌜ (paper r ≡ payloadAnswer mtu (now (unit .entry)) (now (obus .entry)) (now (plan .entry)) (now (out .entry)))
+        × (now (obus .exit) ≡ obusAfter mtu (now (unit .entry)) (now (obus .entry)))
+        × (now (plan .exit) ≡ planAfter mtu (now (unit .entry)) (now (obus .entry)) (now (plan .entry)))
+        × (now (out .exit) ≡ outAfter mtu (now (unit .entry)) (now (obus .entry)) (now (plan .entry)) (now (out .entry))) ⌝ }
+{
+    match packetizer::plan_unit(mtu, unit, obus, plan) {
+        PlanAnswer::Refused { refusal, at } => PayloadAnswer::Refused {
+            refusal: refusal,
+            at: at,
+        },
+        PlanAnswer::Planned(planned) => {
+            let listed = planned.obus * obu::OBU_NUMBERS;
+            let recorded = planned.packets * packetizer::PLAN_NUMBERS;
+            let bytes = planned_bytes(&plan[..recorded]);
+            if out.len() < bytes {
+                return PayloadAnswer::Refused {
+                    refusal: Refusal::OutputFull,
+                    at: 0,
+                };
+            }
+            write_packets(mtu, unit, &obus[..listed], &plan[..recorded], out);
+            PayloadAnswer::Written(Payloads {
+                obus: planned.obus,
+                packets: planned.packets,
+                bytes: bytes,
+            })
+        }
+    }
+}
