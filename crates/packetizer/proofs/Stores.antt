@@ -1,7 +1,6 @@
 -- Records stored one after the other in a lent plan list. Assumes nothing.
 use mathlib.Core.Path.{_≡_, refl, sym, ap, _∙_}
 use Prim.Native.Nat.{ℕ, _+_, _*_}
-use native.Mathlib.Numerals.{add-one, add-two, add-three, add-four}
 use native.Mathlib.Omega.{arith}
 use mathlib.Core.Bool.{Bool, true, false}
 use mathlib.Core.List.{List, [], _∷_, _++_, flatMap}
@@ -14,13 +13,6 @@ use Rattle.packetizer.specs.declared.PacketMetadata.{PacketMetadata}
 
 pub flat-length : (ps : List PacketMetadata) → length (flatPlan ps) ≡ length ps * planNumbers
 flat-length ps = flatMap-length recordNumbers planNumbers (λ p. refl) ps
-
--- the five stores of a record
-pub record-stored : (l : List ℕ) (n : ℕ) (p : PacketMetadata)
-    → set (set (set (set (set l (n * 5) (p .«first_obu_index»)) (n * 5 + 1) (p .«num_obu_elements»)) (n * 5 + 2) (p .«first_obu_offset»)) (n * 5 + 3) (p .«last_obu_size»)) (n * 5 + 4) (p .«packet_size»)
-    ≡ recorded true l n (p ∷ [])
-unfolding flatMap
-record-stored l n p = rw (add-one (n * 5), add-two (n * 5), add-three (n * 5), add-four (n * 5))
 
 module _ (store : Bool) (l : List ℕ) (n : ℕ) where
   pub recorded-none : l ≡ recorded store l n []

@@ -59,11 +59,15 @@ fn put_record(plan: &mut [u32], n: usize, p: PacketMetadata, store: bool)
 {
     if store {
         let at = n * PLAN_NUMBERS;
-        plan[at] = p.first_obu_index;
-        plan[at + 1] = p.num_obu_elements;
-        plan[at + 2] = p.first_obu_offset;
-        plan[at + 3] = p.last_obu_size;
-        plan[at + 4] = p.packet_size;
+        base::put_five(
+            plan,
+            at,
+            p.first_obu_index,
+            p.num_obu_elements,
+            p.first_obu_offset,
+            p.last_obu_size,
+            p.packet_size,
+        );
     }
 }
 
