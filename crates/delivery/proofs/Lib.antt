@@ -1,0 +1,11 @@
+-- The proof of what specs/ states.
+pub mod Walk
+pub mod Open
+pub mod Numbers
+pub mod Follow
+pub mod Timely
+pub mod OneCall
+pub mod Exchange
+pub mod Theorem
+pub mod NoLoss
+pub mod Instance

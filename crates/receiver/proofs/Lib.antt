@@ -1,0 +1,13 @@
+pub mod Rows
+pub mod Numbers
+pub mod Lists
+pub mod Across
+pub mod Framing
+pub mod Cursors
+pub mod Turns
+pub mod Opens
+pub mod Takes
+pub mod Outcomes
+pub mod Laws
+pub mod Behind
+pub mod Sizes

@@ -1,0 +1,53 @@
+-- Laws of lists: what is replaced in a list, piece after piece. Assumes nothing.
+use mathlib.Core.Path.{_≡_, sym, ap, _∙_}
+use Prim.Native.Nat.{ℕ, suc, _+_, _≤_, _<_}
+use native.Mathlib.Nat.{add-zero}
+use native.Mathlib.Numerals.{add-one}
+use native.Mathlib.Omega.{arith}
+use mathlib.Core.List.{List, [], _∷_, _++_, append-nil, append-assoc}
+use lib.ListN.{length, getD, take, drop, set, length-append, length-drop, take-append-drop}
+use lib.Seq.{length-take-le, take-at, drop-append-add, drop-drop, set-split, paste, paste-suc, getD-drop}
+use Rattle.base.specs.Lists.{replaced, front}
+
+module _ {A : Type 0} where
+  pub replaced-none : (l : List A) (at : ℕ) → replaced l at [] ≡ l
+  replaced-none l at = rw (append-nil (take at l), add-zero at) (take-append-drop at l)
+
+  pub replaced-length : (l : List A) (at : ℕ) (new : List A) → at + length new ≤ length l → length (replaced l at new) ≡ length l
+  replaced-length l at new h =
+      simp (length-append, length-drop) (omega (arith, length-take-le at l (omega arith)))
+
+  -- new elements, and right after them more
+  pub replaced-more : (l : List A) (at : ℕ) (a b : List A) → at ≤ length l → replaced (replaced l at a) (at + length a) b ≡ replaced l at (a ++ b)
+  replaced-more l at a b h =
+      let n : length (take at l ++ a) ≡ at + length a = length-append (take at l) a ∙ ap (λ (k : ℕ). k + length a) (length-take-le at l h) in
+      let t : take (at + length a) (replaced l at a) ≡ take at l ++ a = take-at (take at l ++ a) (drop (at + length a) l) (at + length a) n in
+      let d : drop (at + length a + length b) (replaced l at a) ≡ drop (at + length (a ++ b)) l =
+      ap (λ (k : ℕ). drop (k + length b) (replaced l at a)) (sym n)
+      ∙ drop-append-add (take at l ++ a) (drop (at + length a) l) (length b)
+      ∙ drop-drop (length b) (at + length a) l
+      ∙ ap (λ (k : ℕ). drop k l) (sum (length-append a b)) in
+      rw (t, d) (ap (λ (x : List A). x ++ drop (at + length (a ++ b)) l) (append-assoc (take at l) a b))
+    where
+      sum : length (a ++ b) ≡ length a + length b → at + length a + length b ≡ at + length (a ++ b)
+      sum e = omega arith
+
+  -- one element stored
+  pub set-one : (l : List A) (at : ℕ) (v : A) → at < length l → set l at v ≡ replaced l at (v ∷ [])
+  set-one l at v h = set-split l at v h ∙ rw (add-one at) (sym (append-assoc (take at l) (v ∷ []) (drop (suc at) l)))
+
+  -- a copy, one element more
+  pub copy-next : (d s to : List A) (at start n i : ℕ) (z : A) → at + n ≤ length d → start + n ≤ length s → i < n → to ≡ paste d at (drop start s) i
+      → set to (at + i) (getD s (start + i) z) ≡ paste d at (drop start s) (i + 1)
+  copy-next d s to at start n i z a b h e =
+      rw (e, ← getD-drop start s i z, add-one) (paste-suc d at (drop start s) i z (omega arith) (omega (arith, length-drop start s)))
+
+  pub copy-end : (d s to : List A) (at start n i : ℕ) → start + n ≤ length s → i ≡ n → to ≡ paste d at (drop start s) i
+      → to ≡ replaced d at (take n (drop start s))
+  copy-end d s to at start n i b q e =
+      e
+      ∙ ap (λ (k : ℕ). paste d at (drop start s) k) q
+      ∙ ap (λ (k : ℕ). take at d ++ take n (drop start s) ++ drop (at + k) d) (sym (length-take-le n (drop start s) (omega (arith, length-drop start s))))
+
+  pub front-length : (new l : List A) → length new ≤ length l → length (front new l) ≡ length l
+  front-length new l h = simp (length-append, length-drop) (omega arith)

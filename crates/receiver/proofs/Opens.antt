@@ -1,0 +1,143 @@
+-- What is joined, finished and left open, by the tests that the code makes. Assumes nothing.
+use mathlib.Core.Path.{_≡_, refl, sym, ap, ap₂, subst, _∙_}
+use Prim.Native.Nat.{ℕ, zero, suc, _+_, _-_, _≤_, _<_}
+use native.Mathlib.Omega.{arith}
+use mathlib.Core.List.{List, [], _∷_, _++_, map}
+use mathlib.Core.Bool.{Bool, true, false, cond, _&&_}
+use lib.ListN.{length, getD, take, drop, length-drop, length-map, drop-of-length-le, List·getD-map}
+use lib.Seq.{getD-drop, take-length, length-take-le}
+use lib.Dec.{eqb}
+use borrow.Author.Tests.{eq-eqb, ne-eqb, eqb-true, eqb-false}
+use Rattle.base.specs.Answers.{given}
+use Rattle.base.proofs.Tests.{by-cond, split-on}
+use Rattle.element.specs.Elements.{bytesOf, nowhere, payloadElements}
+use Rattle.element.specs.declared.Part.{Part}
+use Rattle.receiver.specs.Joining.{joined, finished, left}
+use Rattle.receiver.specs.Inside.{partsOf, led, thrown, finishedEnd}
+use Rattle.receiver.specs.Paper.{fragmentOf}
+use Rattle.receiver.specs.declared.handing.Fragment.{Fragment}
+use Rattle.receiver.proofs.Cursors.{part-at}
+use Rattle.receiver.proofs.Turns.{led-none}
+
+-- ---- the last one
+
+left-last : (m : ℕ) (js : List (List ℕ)) → length js ≡ suc m → left true js ≡ getD js m []
+unfolding left
+left-last m [] e = absurd (omega arith)
+left-last zero (j ∷ []) e = refl
+left-last zero (j ∷ i ∷ js) e = absurd (omega arith)
+left-last (suc m) (j ∷ []) e = absurd (omega arith)
+left-last (suc m) (j ∷ i ∷ js) e = left-last m (i ∷ js) (omega arith)
+
+led-length : (f : List ℕ) (es : List (List ℕ)) → length (led f es) ≡ length es
+led-length f [] = refl
+led-length f (e ∷ es) = refl
+
+led-nth : (f : List ℕ) (es : List (List ℕ)) (m : ℕ) → m < length es → getD (led f es) m [] ≡ cond (eqb m 0) f [] ++ getD es m []
+led-nth f [] m h = absurd (omega arith)
+led-nth f (e ∷ es) zero h = refl
+led-nth f (e ∷ es) (suc m) h = rw (ne-eqb (suc m) 0 (λ z. omega arith))
+
+-- what is left open, as the code states it
+abbrev pub Left : List ℕ → Bool → ℕ → ℕ → Fragment → Type 0
+Left payload y from size r =
+    (r .kept ≤ size)
+    × (r .start + r .size ≤ length payload)
+    × ((store : List ℕ) → fragmentOf store payload r ≡ left y (led (take size store) (drop from (map (bytesOf payload) (partsOf payload)))))
+
+abbrev none : Fragment
+none = record { kept = 0; start = 0; size = 0 }
+
+pub left-none : (payload : List ℕ) (from size : ℕ) → Left payload false from size none
+unfolding left
+left-none payload from size = (omega arith, omega arith, λ store. refl)
+
+module _ (payload : List ℕ) (from size n : ℕ) (count : n ≡ length (partsOf payload)) where
+  abbrev es : List (List ℕ)
+  es = map (bytesOf payload) (partsOf payload)
+
+  es-length : length es ≡ n
+  es-length = length-map (partsOf payload) (bytesOf payload) ∙ sym count
+
+  pub left-thrown : n ≤ from → Left payload true from size none
+  unfolding left
+  left-thrown h = (omega arith, omega arith, λ store. rw (drop-of-length-le es {i = from} (omega (arith, es-length))))
+
+  module _ (whole : payloadElements payload ≡ given (partsOf payload)) (p : Part) (last : p ≡ getD (partsOf payload) (n - 1) nowhere) (some : from < n) (k : ℕ) (all : k ≡ cond (eqb (n - from) 1) size 0) where
+    lies : p .start + p .length ≤ length payload
+    lies =
+        let l = part-at payload (partsOf payload) whole (n - 1) (omega arith) in
+        subst (λ (q : Part). q .start + q .length ≤ length payload) (sym last) (omega arith)
+
+    same-test : (m : ℕ) → n - from ≡ suc m → eqb m 0 ≡ eqb (n - from) 1
+    same-test m e = split-on (eqb (n - from) 1)
+        (λ t. let i : n - from ≡ 1 = eqb-true (n - from) 1 t in eq-eqb m 0 (omega arith) ∙ sym t)
+        (λ t. ne-eqb m 0 (λ z. eqb-false (n - from) 1 t (omega arith)) ∙ sym t)
+
+    in-front : (store : List ℕ) (t : Bool) → cond t (take size store) [] ≡ take (cond t size 0) store
+    in-front store true = refl
+    in-front store false = refl
+
+    pub left-some : Left payload true from size (record { kept = k; start = p .start; size = p .length })
+    left-some =
+        (rw all (by-cond (λ (x : ℕ). x ≤ size) (eqb (n - from) 1) size 0 (λ t. omega arith) (λ t. omega arith)), lies, λ store. sym (is store))
+      where
+        is : (store : List ℕ) → left true (led (take size store) (drop from es)) ≡ fragmentOf store payload (record { kept = k; start = p .start; size = p .length })
+        is store =
+            let m : ℕ = n - from - 1 in
+            let e : n - from ≡ suc m = omega arith in
+            let i : from + m ≡ n - 1 = omega arith in
+            let d : length (drop from es) ≡ n - from = length-drop from es ∙ ap (λ (x : ℕ). x - from) es-length in
+            let g : getD (drop from es) m [] ≡ bytesOf payload p =
+            getD-drop from es m []
+            ∙ ap (λ (x : ℕ). getD es x []) i
+            ∙ List·getD-map (bytesOf payload) (partsOf payload) (n - 1) nowhere
+            ∙ ap (bytesOf payload) (sym last) in
+            let f : cond (eqb m 0) (take size store) [] ≡ take k store =
+            ap (λ (t : Bool). cond t (take size store) []) (same-test m e) ∙ in-front store (eqb (n - from) 1) ∙ ap (λ (x : ℕ). take x store) (sym all) in
+            left-last m (led (take size store) (drop from es)) (led-length (take size store) (drop from es) ∙ d ∙ e)
+            ∙ led-nth (take size store) (drop from es) m (omega arith)
+            ∙ ap₂ _++_ f g
+
+-- ---- joined, and finished
+
+joined-led : (o : List ℕ) (es : List (List ℕ)) → (length o ≡ 0 → ⊥) → joined o true es ≡ led o es
+unfolding joined
+joined-led [] es h = absurd (h refl)
+joined-led (b ∷ o) [] h = refl
+joined-led (b ∷ o) (e ∷ es) h = refl
+
+joined-thrown : (es : List (List ℕ)) → joined [] true es ≡ led [] (drop 1 es)
+unfolding joined
+joined-thrown [] = refl
+joined-thrown (e ∷ es) = sym (led-none es)
+
+-- z: the flag; t: in step; of the store, `size` bytes are open and k are joined; `from` elements are thrown away
+pub joined-is : (store : List ℕ) (size : ℕ) (z t : Bool) (es : List (List ℕ)) (k from : ℕ) → size ≤ length store → k ≡ cond (z && t) size 0 → from ≡ thrown z k
+    → joined (cond t (take size store) []) z es ≡ led (take k store) (drop from es)
+unfolding joined
+joined-is store size false t es k from h a b = rw (b, a) (sym (led-none es))
+joined-is store size true false es k from h a b = rw (b, a) (joined-thrown es)
+joined-is store zero true true es k from h a b = rw (b, a) (joined-thrown es)
+joined-is store (suc m) true true es k from h a b =
+    rw (b, a, ne-eqb (suc m) 0 (λ z. omega arith))
+    (joined-led (take (suc m) store) es (λ z. omega (arith, length-take-le (suc m) store h)))
+
+finished-take : (y : Bool) (js : List (List ℕ)) → finished y js ≡ take (finishedEnd y (length js)) js
+unfolding finished
+finished-take false js = sym (take-length js)
+finished-take true [] = refl
+finished-take true (j ∷ []) = refl
+finished-take true (j ∷ i ∷ js) =
+    let e : suc (suc (length js)) - 1 ≡ suc (length (i ∷ js) - 1) = omega arith in
+    rw e (ap (λ (l : List (List ℕ)). j ∷ l) (finished-take true (i ∷ js)))
+
+pub finished-is : (y : Bool) (f : List ℕ) (es : List (List ℕ)) (from n : ℕ) → n ≡ length es
+    → finished y (led f (drop from es)) ≡ take (finishedEnd y n - from) (led f (drop from es))
+finished-is y f es from n e =
+    finished-take y (led f (drop from es))
+    ∙ ap (λ (m : ℕ). take m (led f (drop from es))) (ends y (length (led f (drop from es))) (led-length f (drop from es) ∙ length-drop from es ∙ ap (λ (m : ℕ). m - from) (sym e)))
+  where
+    ends : (y : Bool) (m : ℕ) → m ≡ n - from → finishedEnd y m ≡ finishedEnd y n - from
+    ends true m q = omega arith
+    ends false m q = q

@@ -1,0 +1,145 @@
+-- The payloads of U fed back, and the receiver's refusals in their order; computed. Assumes nothing.
+use mathlib.Core.Path.{_≡_, refl}
+use Prim.Native.Nat.{ℕ, _+_, _%_}
+use mathlib.Core.Bool.{true, false}
+use mathlib.Core.List.{List, [], _∷_, _++_, map}
+use Rattle.base.specs.Answers.{Answer, given, refused}
+use Rattle.leb128.specs.Field.{fieldIn, encodeIn}
+use Rattle.obu.specs.Front.{frontOf, headed}
+use Rattle.obu.specs.Wire.{wholeOf, wire}
+use Rattle.element.specs.Elements.{elementAt, untilEnd, exactly, counting, elementsOf, payloadElements}
+use Rattle.receiver.specs.Joining.{Held, fresh, isAhead, isInStep, joined, finished, left, handed, keptOpen, next, out}
+use Rattle.receiver.specs.Handing.{wires}
+use Rattle.receiver.specs.Call.{Taken, taken, outcome, receiveAnswer, storeAfter, outputAfter}
+use Rattle.receiver.specs.declared.State.{State}
+use Rattle.receiver.specs.declared.Received.{Received}
+
+-- all that goes out for payloads numbered in one run from `number` on, with 64 bytes of space each, refused ones passed over
+after : Held → Answer Taken → Held
+after h (given t) = t .held
+after h (refused n at) = h
+
+bytes : Answer Taken → List ℕ
+bytes (given t) = t .bytes
+bytes (refused n at) = []
+
+feed : Held → ℕ → List (List ℕ) → List ℕ
+feed h number [] = []
+feed h number (p ∷ ps) =
+    bytes (taken 64 64 h number p) ++ feed (after h (taken 64 64 h number p)) ((number + 1) % 65536) ps
+
+-- U3, U4, U5, U6, U7, U8, U9, U10, U11, U17, U18
+trains : List (List (List ℕ))
+trains =
+    ((0x58 ∷ 8 ∷ []) ∷ (0x90 ∷ 0x7f ∷ []) ∷ [])
+    ∷ ((0x18 ∷ 8 ∷ 0x7f ∷ []) ∷ [])
+    ∷ ((0x18 ∷ 8 ∷ 0x7f ∷ []) ∷ (0x10 ∷ 0x30 ∷ []) ∷ [])
+    ∷ ((0x28 ∷ 4 ∷ 8 ∷ 0x11 ∷ 0x22 ∷ 0x33 ∷ 0x30 ∷ 0xa1 ∷ 0xa2 ∷ 0xa3 ∷ 0xa4 ∷ 0xa5 ∷ []) ∷ [])
+    ∷ ((0x58 ∷ 8 ∷ 0x11 ∷ []) ∷ (0x90 ∷ 0x22 ∷ 0x33 ∷ []) ∷ (0x50 ∷ 0x30 ∷ 0xa1 ∷ []) ∷ (0xd0 ∷ 0xa2 ∷ 0xa3 ∷ []) ∷ (0x90 ∷ 0xa4 ∷ 0xa5 ∷ []) ∷ [])
+    ∷ ((0x30 ∷ 1 ∷ 0x30 ∷ 1 ∷ 0x30 ∷ 0x30 ∷ []) ∷ [])
+    ∷ ((0x00 ∷ 1 ∷ 0x30 ∷ 1 ∷ 0x30 ∷ 1 ∷ 0x30 ∷ 1 ∷ 0x30 ∷ []) ∷ [])
+    ∷ ((0x50 ∷ 0x34 ∷ []) ∷ (0x90 ∷ 8 ∷ []) ∷ [])
+    ∷ ((0x50 ∷ 0x34 ∷ 8 ∷ []) ∷ (0x90 ∷ 0xc1 ∷ []) ∷ [])
+    ∷ ((0x10 ∷ 0x30 ∷ []) ∷ [])
+    ∷ ((0x30 ∷ 1 ∷ 0x30 ∷ 1 ∷ 0x30 ∷ 0x30 ∷ []) ∷ (0x50 ∷ 0x30 ∷ 0xa1 ∷ 0xa1 ∷ 0xa1 ∷ 0xa1 ∷ 0xa1 ∷ []) ∷ (0x90 ∷ 0xa1 ∷ []) ∷ [])
+    ∷ []
+
+-- the kept OBUs of the units, each with bit 1 set and a shortest size field; the numbers wrap
+units :
+    map (feed fresh 65535) trains
+    ≡ (0x0a ∷ 1 ∷ 0x7f ∷ [])
+    ∷ (0x0a ∷ 1 ∷ 0x7f ∷ [])
+    ∷ (0x0a ∷ 1 ∷ 0x7f ∷ 0x32 ∷ 0 ∷ [])
+    ∷ (0x0a ∷ 3 ∷ 0x11 ∷ 0x22 ∷ 0x33 ∷ 0x32 ∷ 5 ∷ 0xa1 ∷ 0xa2 ∷ 0xa3 ∷ 0xa4 ∷ 0xa5 ∷ [])
+    ∷ (0x0a ∷ 3 ∷ 0x11 ∷ 0x22 ∷ 0x33 ∷ 0x32 ∷ 5 ∷ 0xa1 ∷ 0xa2 ∷ 0xa3 ∷ 0xa4 ∷ 0xa5 ∷ [])
+    ∷ (0x32 ∷ 0 ∷ 0x32 ∷ 0 ∷ 0x32 ∷ 0 ∷ [])
+    ∷ (0x32 ∷ 0 ∷ 0x32 ∷ 0 ∷ 0x32 ∷ 0 ∷ 0x32 ∷ 0 ∷ [])
+    ∷ (0x36 ∷ 8 ∷ 0 ∷ [])
+    ∷ (0x36 ∷ 8 ∷ 1 ∷ 0xc1 ∷ [])
+    ∷ (0x32 ∷ 0 ∷ [])
+    ∷ (0x32 ∷ 0 ∷ 0x32 ∷ 0 ∷ 0x32 ∷ 0 ∷ 0x32 ∷ 6 ∷ 0xa1 ∷ 0xa1 ∷ 0xa1 ∷ 0xa1 ∷ 0xa1 ∷ 0xa1 ∷ [])
+    ∷ []
+unfolding feed after bytes trains taken payloadElements elementsOf counting untilEnd exactly elementAt fieldIn encodeIn isAhead isInStep joined finished left handed keptOpen next out wires wire wholeOf frontOf headed
+units = refl
+
+-- ---- calls: a state, a number, a payload, a store, an output
+
+record Given : Type 0 where
+  state : State
+  number : ℕ
+  payload : List ℕ
+  store : List ℕ
+  output : List ℕ
+
+-- begun at number 7, with so many bytes open
+at7 : ℕ → State
+at7 n = record { begun = true; last = 7; «open» = n }
+
+begin : State
+begin = record { begun = false; last = 0; «open» = 0 }
+
+call : State → ℕ → List ℕ → List ℕ → List ℕ → Given
+call s n p store output = record { state = s; number = n; payload = p; store = store; output = output }
+
+answers : List Given → List (Answer Received)
+answers cs = map (λ (c : Given). receiveAnswer (c .state) (c .number) (c .payload) (c .store) (c .output)) cs
+
+-- a refusal, in the order of C3
+bad : List Given
+bad =
+    call (at7 1) 7 [] [] []
+    ∷ call (at7 0) 7 [] [] []
+    ∷ call (at7 0) 7 (0x98 ∷ []) [] []
+    ∷ call (at7 0) 32775 (0x98 ∷ []) [] []
+    ∷ call begin 0 (0x98 ∷ []) [] []
+    ∷ call begin 0 (0x20 ∷ []) [] []
+    ∷ call begin 0 (0x10 ∷ []) [] []
+    ∷ call begin 0 (0x60 ∷ 1 ∷ 0x12 ∷ 0x30 ∷ []) [] []
+    ∷ call begin 0 (0x10 ∷ 0x12 ∷ []) [] []
+    ∷ call begin 0 (0x10 ∷ 0x32 ∷ 0x80 ∷ []) [] []
+    ∷ call (at7 1) 8 (0x90 ∷ 0x80 ∷ []) (0x32 ∷ []) []
+    ∷ call begin 0 (0x60 ∷ 1 ∷ 0x30 ∷ 0x30 ∷ []) [] []
+    ∷ call (at7 1) 8 (0xd0 ∷ 0xa1 ∷ []) (0x30 ∷ []) []
+    ∷ call begin 0 (0x60 ∷ 1 ∷ 0x30 ∷ 0x30 ∷ []) (0 ∷ []) (0 ∷ [])
+    ∷ []
+
+refusals :
+    answers bad
+    ≡ map (λ (n : ℕ). refused n 0) (12 ∷ 13 ∷ 14 ∷ 14 ∷ 15 ∷ 16 ∷ 17 ∷ 18 ∷ 18 ∷ 18 ∷ 18 ∷ 19 ∷ 19 ∷ 20 ∷ [])
+unfolding bad call at7 begin answers outcome taken payloadElements elementsOf counting untilEnd exactly elementAt fieldIn encodeIn isAhead isInStep joined finished left handed keptOpen next out wires wire wholeOf frontOf headed
+refusals = refl
+
+-- a packet taken: thrown away where nothing is open or it is not in step; joined and left open; dropped types; the furthest that is ahead
+good : List Given
+good =
+    call begin 9 (0x90 ∷ 0x34 ∷ []) (1 ∷ []) (1 ∷ [])
+    ∷ call (at7 1) 9 (0xd0 ∷ 0xa1 ∷ []) (0x30 ∷ 1 ∷ []) []
+    ∷ call (at7 1) 8 (0xd0 ∷ 0xa1 ∷ []) (0x30 ∷ 1 ∷ 1 ∷ []) []
+    ∷ call (at7 2) 8 (0x90 ∷ 0xa2 ∷ []) (0x30 ∷ 0xa1 ∷ 1 ∷ []) (1 ∷ 1 ∷ 1 ∷ 1 ∷ 1 ∷ [])
+    ∷ call (at7 1) 8 (0x10 ∷ 0x10 ∷ []) (0x30 ∷ 1 ∷ []) []
+    ∷ call (at7 0) 32774 (0x50 ∷ 0x78 ∷ []) (1 ∷ 1 ∷ []) []
+    ∷ []
+
+states :
+    answers good
+    ≡ given (record { state = record { begun = true; last = 9; «open» = 0 }; bytes = 0 })
+    ∷ given (record { state = record { begun = true; last = 9; «open» = 0 }; bytes = 0 })
+    ∷ given (record { state = record { begun = true; last = 8; «open» = 2 }; bytes = 0 })
+    ∷ given (record { state = record { begun = true; last = 8; «open» = 0 }; bytes = 4 })
+    ∷ given (record { state = record { begun = true; last = 8; «open» = 0 }; bytes = 0 })
+    ∷ given (record { state = record { begun = true; last = 32774; «open» = 1 }; bytes = 0 })
+    ∷ []
+unfolding good call at7 begin answers outcome taken payloadElements elementsOf counting untilEnd exactly elementAt fieldIn encodeIn isAhead isInStep joined finished left handed keptOpen next out wires wire wholeOf frontOf headed
+states = refl
+
+stores :
+    map (λ (c : Given). storeAfter (c .state) (c .number) (c .payload) (c .store) (c .output)) good
+    ≡ (1 ∷ []) ∷ (0x30 ∷ 1 ∷ []) ∷ (0x30 ∷ 0xa1 ∷ 1 ∷ []) ∷ (0x30 ∷ 0xa1 ∷ 1 ∷ []) ∷ (0x30 ∷ 1 ∷ []) ∷ (0x78 ∷ 1 ∷ []) ∷ []
+unfolding good call at7 begin outcome taken payloadElements elementsOf counting untilEnd exactly elementAt fieldIn encodeIn isAhead isInStep joined finished left handed keptOpen next out wires wire wholeOf frontOf headed
+stores = refl
+
+outputs :
+    map (λ (c : Given). outputAfter (c .state) (c .number) (c .payload) (c .store) (c .output)) good
+    ≡ (1 ∷ []) ∷ [] ∷ [] ∷ (0x32 ∷ 2 ∷ 0xa1 ∷ 0xa2 ∷ 1 ∷ []) ∷ [] ∷ [] ∷ []
+unfolding good call at7 begin outcome taken payloadElements elementsOf counting untilEnd exactly elementAt fieldIn encodeIn isAhead isInStep joined finished left handed keptOpen next out wires wire wholeOf frontOf headed
+outputs = refl

@@ -1,0 +1,82 @@
+-- What the receiver holds, and what a packet taken apart makes of it (V1 to V8, V13, V15).
+use Prim.Native.Nat.{ℕ, _+_, _-_, _%_}
+use mathlib.Core.List.{List, [], _∷_, _++_}
+use mathlib.Core.Bool.{Bool, true, false, cond, not, _&&_, _||_}
+use lib.Dec.{leb, eqb}
+use Rattle.receiver.specs.Packet.{Packet}
+
+-- V1: whether something was taken, the last number taken, and the open fragment; none is the empty list
+pub record Held : Type 0 where
+  pub begun : Bool
+  pub last : ℕ
+  pub fragment : List ℕ
+
+abbrev pub fresh : Held
+fresh = record { begun = false; last = 0; fragment = [] }
+
+-- ---- numbers
+
+-- V2: how far it is forward from the last number, modulo 65,536
+abbrev pub distance : ℕ → ℕ → ℕ
+distance last number = (number + 65536 - last) % 65536
+
+-- L10
+abbrev pub furthestAhead : ℕ
+furthestAhead = 32767
+
+-- V3, V4
+unfoldable pub isAhead : Bool → ℕ → ℕ → Bool
+isAhead begun last number = not begun || (leb 1 (distance last number) && leb (distance last number) furthestAhead)
+
+unfoldable pub isInStep : Bool → ℕ → ℕ → Bool
+isInStep begun last number = begun && eqb (distance last number) 1
+
+abbrev pub ahead : Held → ℕ → Bool
+ahead h number = isAhead (h .begun) (h .last) number
+
+abbrev pub inStep : Held → ℕ → Bool
+inStep h number = isInStep (h .begun) (h .last) number
+
+-- ---- elements
+
+-- V5: the fragment that the first element of a packet may join
+abbrev pub joinable : Held → ℕ → List ℕ
+joinable h number = cond (inStep h number) (h .fragment) []
+
+-- V6: with Z, the first element joins that fragment, or is thrown away where there is none
+unfoldable pub joined : List ℕ → Bool → List (List ℕ) → List (List ℕ)
+joined fragment false es = es
+joined fragment true [] = []
+joined [] true (e ∷ es) = es
+joined (b ∷ fragment) true (e ∷ es) = ((b ∷ fragment) ++ e) ∷ es
+
+-- V8: with Y, all but the last are finished
+unfoldable pub finished : Bool → List (List ℕ) → List (List ℕ)
+finished false js = js
+finished true [] = []
+finished true (j ∷ []) = []
+finished true (j ∷ i ∷ js) = j ∷ finished true (i ∷ js)
+
+-- V7: with Y, the last is left open
+unfoldable pub left : Bool → List (List ℕ) → List ℕ
+left false js = []
+left true [] = []
+left true (j ∷ []) = j
+left true (j ∷ i ∷ js) = left true (i ∷ js)
+
+-- the OBUs that a packet finishes, and the fragment that it leaves open, where its first element may join `fragment`
+unfoldable pub handed : List ℕ → Packet → List (List ℕ)
+handed fragment p = finished (p .y) (joined fragment (p .z) (p .elements))
+
+unfoldable pub keptOpen : List ℕ → Packet → List ℕ
+keptOpen fragment p = left (p .y) (joined fragment (p .z) (p .elements))
+
+-- ---- a packet with its number; one that is not ahead changes nothing and finishes nothing
+
+-- V13: what is held after it
+unfoldable pub next : Held → ℕ → Packet → Held
+next h number p = cond (ahead h number) (record { begun = true; last = number; fragment = keptOpen (joinable h number) p }) h
+
+-- the OBUs that it finishes
+unfoldable pub out : Held → ℕ → Packet → List (List ℕ)
+out h number p = cond (ahead h number) (handed (joinable h number) p) []

@@ -1,0 +1,6 @@
+pub mod Packet
+pub mod Joining
+pub mod Handing
+pub mod Call
+pub mod Inside
+pub mod Paper
