@@ -125,7 +125,7 @@ fn put_element(
 }
 
 // The aggregation header of packet k.
-fn header_byte(obus: &[u32], plan: &[u32], k: usize) -> u8
+pub fn header_byte(obus: &[u32], plan: &[u32], k: usize) -> u8
     requires { ⌜ headerOf (obusIn (now obus)) (packetsIn (now plan)) k ≡ given (byteOf (obusIn (now obus)) (getD (packetsIn (now plan)) k noPacket) k) ⌝ }
     ensures { λ r. ⌜ r ≡ byteOf (obusIn (now (obus .entry))) (getD (packetsIn (now (plan .entry))) k noPacket) k ⌝ }
 {

@@ -1,0 +1,4 @@
+pub mod Inputs
+pub mod Whole
+pub mod Lines
+pub mod Rows

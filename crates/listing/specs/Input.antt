@@ -1,0 +1,68 @@
+-- The input of `planlist` (G1, G8, L12, L13).
+use Prim.Native.Nat.{ℕ, _+_, _*_}
+use mathlib.Core.List.{List}
+use mathlib.Core.Bool.{Bool, cond, not, _||_}
+use lib.ListN.{length, getD, take, drop}
+use lib.Dec.{ltb, eqb}
+use Rattle.train.specs.Bytes.{valueOf}
+use Rattle.listing.specs.declared.Stated.{Stated}
+
+-- the version byte; the bytes of the head, of its mtu and of its length; L12; L13
+abbrev pub version : ℕ
+version = 1
+
+abbrev pub headBytes : ℕ
+headBytes = 7
+
+abbrev pub mtuWidth : ℕ
+mtuWidth = 2
+
+abbrev pub lengthWidth : ℕ
+lengthWidth = 4
+
+abbrev pub unitStore : ℕ
+unitStore = 32768
+
+abbrev pub listRecords : ℕ
+listRecords = 512
+
+-- what a head states: an mtu, and how long the unit is
+pub data Head : Type 0 where
+  bad : Head
+  states : Stated → Head
+
+abbrev pub mtuIn : List ℕ → ℕ
+mtuIn l = valueOf (take mtuWidth (drop 1 l))
+
+abbrev pub lengthIn : List ℕ → ℕ
+lengthIn l = valueOf (take lengthWidth (drop (1 + mtuWidth) l))
+
+-- cut, of another version, or with a unit over the store
+abbrev pub isBad : List ℕ → Bool
+isBad l = ltb (length l) headBytes || not (eqb (getD l 0 0) version) || ltb unitStore (lengthIn l)
+
+unfoldable pub headOf : List ℕ → Head
+headOf l = cond (isBad l) bad (states (record { mtu = mtuIn l; length = lengthIn l }))
+
+-- how long the unit is, 0 with a bad head
+abbrev pub lengthBy : Head → ℕ
+lengthBy bad = 0
+lengthBy (states s) = s .length
+
+-- the mtu, if the input is good
+pub data Input : Type 0 where
+  badInput : Input
+  good : ℕ → Input
+
+-- by its head, with so many bytes after it
+abbrev pub inputBy : ℕ → Head → Input
+inputBy n bad = badInput
+inputBy n (states s) = cond (eqb n (s .length)) (good (s .mtu)) badInput
+
+-- an input as a whole: nothing is missing, and nothing is left over
+unfoldable pub inputOf : List ℕ → Input
+inputOf l = inputBy (length (drop headBytes l)) (headOf l)
+
+-- by the bytes read of its head, by how many came of the unit, and by whether a further byte came
+unfoldable pub inputRead : List ℕ → ℕ → Bool → Input
+inputRead head came more = cond more badInput (inputBy came (headOf head))

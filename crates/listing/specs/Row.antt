@@ -1,0 +1,30 @@
+-- A line of the listing (G10).
+use Prim.Native.Nat.{ℕ, zero, suc, _+_, _/_, _%_}
+use mathlib.Core.List.{List, []}
+use mathlib.Core.Bool.{cond}
+use lib.ListN.{getD}
+use lib.Dec.{ltb}
+use Rattle.obu.specs.declared.Obu.{Obu}
+use Rattle.packetizer.specs.declared.PacketMetadata.{PacketMetadata}
+use Rattle.aggregation.specs.Header.{noPacket, byteOf}
+use Rattle.listing.specs.declared.Row.{Row}
+
+abbrev pub rowBy : List Obu → PacketMetadata → ℕ → Row
+rowBy obus p k =
+    record {
+      packet = k;
+      «first_obu» = p .«first_obu_index»;
+      elements = p .«num_obu_elements»;
+      «first_offset» = p .«first_obu_offset»;
+      «last_size» = p .«last_obu_size»;
+      «packet_size» = p .«packet_size»;
+      header = byteOf obus p k;
+    }
+
+-- the line of packet k
+abbrev pub rowOf : List Obu → List PacketMetadata → ℕ → Row
+rowOf obus packets k = rowBy obus (getD packets k noPacket) k
+
+-- a hexadecimal digit, in capitals: its letter in ASCII
+abbrev pub capital : ℕ → ℕ
+capital d = cond (ltb d 10) (48 + d) (55 + d)

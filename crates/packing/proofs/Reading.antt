@@ -1,0 +1,92 @@
+-- The head and a unit's length, case by case. Assumes nothing.
+use mathlib.Core.Path.{_≡_, refl, sym, ap, ap₂, _∙_}
+use Prim.Native.Nat.{ℕ, zero, suc, _+_, _*_, _≤_, _<_}
+use native.Mathlib.Omega.{arith}
+use mathlib.Core.List.{List, [], _∷_}
+use mathlib.Core.Bool.{Bool, true, false, cond, _||_, not}
+use lib.ListN.{length, getD, take, drop, length-drop}
+use lib.Seq.{getD-drop}
+use lib.Dec.{ltb, eqb}
+use Rattle.base.proofs.Tests.{split-on}
+use borrow.Author.Tests.{ltb-false, lt-ltb, le-ltb, eq-eqb, ne-eqb}
+use Rattle.train.specs.Bytes.{valueAfter, valueOf}
+use Rattle.train.proofs.Numbers.{two-value}
+use Rattle.packing.specs.Pack.{packVersion, headWidth, unitWidth, unitStore, Head, found, none, headIn, Length, over, stated, cut, lengthIn}
+
+or-second : (a b : Bool) → a || b ≡ false → b ≡ false
+or-second true b e = cc
+or-second false b e = e
+
+-- ---- numbers in bytes
+
+pub two-at : (l : List ℕ) (i : ℕ) → i + 2 ≤ length l → getD l i 0 * 256 + getD l (i + 1) 0 ≡ valueOf (take 2 (drop i l))
+two-at l i h =
+    let a : getD (drop i l) 0 0 ≡ getD l i 0 = getD-drop i l 0 0 ∙ ap (λ (j : ℕ). getD l j 0) (omega arith) in
+    let b : getD (drop i l) 1 0 ≡ getD l (i + 1) 0 = getD-drop i l 1 0 in
+    omega (arith, a, b, two-value (drop i l) (omega (arith, length-drop i l)))
+
+pub four-value : (l : List ℕ) → 4 ≤ length l → (getD l 0 0 * 256 + getD l 1 0) * 65536 + (getD l 2 0 * 256 + getD l 3 0) ≡ valueOf (take 4 l)
+unfolding valueAfter
+four-value (a ∷ b ∷ c ∷ d ∷ l) h = omega arith
+four-value [] h = absurd (omega arith)
+four-value (a ∷ []) h = absurd (omega arith)
+four-value (a ∷ b ∷ []) h = absurd (omega arith)
+four-value (a ∷ b ∷ c ∷ []) h = absurd (omega arith)
+
+-- ---- the head
+
+module _ (l : List ℕ) where
+  pub head-cut : length l < headWidth → none ≡ headIn l
+  unfolding headIn
+  head-cut h = rw (lt-ltb (length l) headWidth h)
+
+  pub head-other : headWidth ≤ length l → (getD l 0 0 ≡ packVersion → ⊥) → none ≡ headIn l
+  unfolding headIn
+  head-other h v = rw (le-ltb (length l) headWidth h, ne-eqb (getD l 0 0) packVersion v)
+
+  pub head-found : (m f : ℕ) → headWidth ≤ length l → getD l 0 0 ≡ packVersion
+      → m ≡ getD l 1 0 * 256 + getD l 2 0 → f ≡ getD l 3 0 * 256 + getD l 4 0 → found (record { mtu = m; first = f }) ≡ headIn l
+  unfolding headIn
+  head-found m f h v p q =
+      rw (le-ltb (length l) headWidth h, eq-eqb (getD l 0 0) packVersion v)
+      (ap₂ (λ (x y : ℕ). found (record { mtu = x; first = y })) (p ∙ two-at l 1 (omega arith)) (q ∙ two-at l 3 (omega arith)))
+
+-- ---- the length of a unit
+
+pub length-none : (l : List ℕ) → length l ≡ 0 → over ≡ lengthIn l
+unfolding lengthIn
+length-none [] h = refl
+length-none (b ∷ l) h = absurd (omega arith)
+
+length-by : (l : List ℕ) → (length l ≡ 0 → ⊥)
+    → lengthIn l ≡ cond (ltb (length l) unitWidth || ltb unitStore (valueOf (take unitWidth l))) cut (stated (valueOf (take unitWidth l)))
+unfolding lengthIn
+length-by [] h = absurd (h refl)
+length-by (b ∷ l) h = refl
+
+module _ (l : List ℕ) where
+  pub length-cut : (length l ≡ 0 → ⊥) → length l < unitWidth → cut ≡ lengthIn l
+  length-cut h s = sym (length-by l h ∙ rw (lt-ltb (length l) unitWidth s))
+
+  module _ (v : ℕ) (some : length l ≡ 0 → ⊥) (whole : unitWidth ≤ length l) (is : v ≡ valueOf (take unitWidth l)) where
+    pub length-over : unitStore < v → cut ≡ lengthIn l
+    length-over h = sym (length-by l some ∙ rw (le-ltb (length l) unitWidth whole, ← is, lt-ltb unitStore v h))
+
+    pub length-stated : v ≤ unitStore → stated v ≡ lengthIn l
+    length-stated h = sym (length-by l some ∙ rw (le-ltb (length l) unitWidth whole, ← is, le-ltb unitStore v h))
+
+-- what is stated is within the store
+pub stated-within : (l : List ℕ) (n : ℕ) → stated n ≡ lengthIn l → n ≤ unitStore
+unfolding lengthIn
+stated-within [] n e = let z : _≡_ {A = ℕ} 0 1 = cc in absurd (omega arith)
+stated-within (b ∷ l) n e =
+    let v = valueOf (take unitWidth (b ∷ l)) in
+    split-on (ltb (length (b ∷ l)) unitWidth || ltb unitStore v)
+    (λ t.
+    let f : stated n ≡ cut = rw t at e in
+    let z : _≡_ {A = ℕ} 0 1 = cc in
+    absurd (omega arith))
+    (λ t.
+    let f : stated n ≡ stated v = rw t at e in
+    let g : n ≡ v = cc in
+    omega (arith, g, ltb-false unitStore v (or-second (ltb (length (b ∷ l)) unitWidth) (ltb unitStore v) t)))

@@ -1,0 +1,62 @@
+-- `pack` on some inputs: the trains, and what stops it; computed. Assumes nothing.
+use mathlib.Core.Path.{_≡_, refl}
+use Prim.Native.Nat.{ℕ}
+use mathlib.Core.List.{List, [], _∷_, map, flatMap}
+use lib.ListN.{drop}
+use Rattle.base.specs.Lists.{keep}
+use Rattle.leb128.specs.Field.{fieldIn, encodeIn}
+use Rattle.obu.specs.Front.{frontOf, headed}
+use Rattle.obu.specs.Unit.{scanFrom, listed}
+use Rattle.packetizer.specs.Fragment.{largestFragment}
+use Rattle.packetizer.specs.Plan.{chargeOf, isFull, needOf, fragmentOf, spread, insert, place, planFrom, planOf}
+use Rattle.packetizer.specs.Elements.{elementsFrom}
+use Rattle.aggregation.specs.Header.{nOf, byteOf}
+use Rattle.payloader.specs.Payload.{fielded, payload, payloadsFrom}
+use Rattle.train.specs.Bytes.{bigEndian, valueAfter}
+use Rattle.packing.specs.Pack.{Stop, ended, cutAt, refusedAt, headIn, lengthIn, numbered, numberAfter, unitIn, packedFrom, packOf, Head, found, none, headWidth}
+
+-- three units, the first with no kept OBU, over the end of the numbers; the third refused; cut; its length cut; over the store;
+-- without it; no unit; an mtu of 2; an mtu over its limit; another version; a cut head; nothing
+inputs : List (List ℕ)
+inputs =
+    (1 ∷ 0 ∷ 5 ∷ 0xff ∷ 0xff ∷ 0 ∷ 0 ∷ 0 ∷ 2 ∷ 0x12 ∷ 0 ∷ 0 ∷ 0 ∷ 0 ∷ 5 ∷ 0x0a ∷ 1 ∷ 0x7f ∷ 0x32 ∷ 0 ∷ 0 ∷ 0 ∷ 0 ∷ 4 ∷ 0x36 ∷ 8 ∷ 1 ∷ 0xc1 ∷ [])
+    ∷ (1 ∷ 0 ∷ 5 ∷ 0xff ∷ 0xff ∷ 0 ∷ 0 ∷ 0 ∷ 2 ∷ 0x12 ∷ 0 ∷ 0 ∷ 0 ∷ 0 ∷ 5 ∷ 0x0a ∷ 1 ∷ 0x7f ∷ 0x32 ∷ 0 ∷ 0 ∷ 0 ∷ 0 ∷ 1 ∷ 0x36 ∷ [])
+    ∷ (1 ∷ 0 ∷ 5 ∷ 0xff ∷ 0xff ∷ 0 ∷ 0 ∷ 0 ∷ 2 ∷ 0x12 ∷ 0 ∷ 0 ∷ 0 ∷ 0 ∷ 5 ∷ 0x0a ∷ 1 ∷ 0x7f ∷ 0x32 ∷ 0 ∷ 0 ∷ 0 ∷ 0 ∷ 4 ∷ 0x36 ∷ 8 ∷ 1 ∷ [])
+    ∷ (1 ∷ 0 ∷ 5 ∷ 0xff ∷ 0xff ∷ 0 ∷ 0 ∷ 0 ∷ 2 ∷ 0x12 ∷ 0 ∷ 0 ∷ 0 ∷ 0 ∷ 5 ∷ 0x0a ∷ 1 ∷ 0x7f ∷ 0x32 ∷ 0 ∷ 0 ∷ 0 ∷ 0 ∷ [])
+    ∷ (1 ∷ 0 ∷ 5 ∷ 0xff ∷ 0xff ∷ 0 ∷ 0 ∷ 0 ∷ 2 ∷ 0x12 ∷ 0 ∷ 0 ∷ 0 ∷ 0 ∷ 5 ∷ 0x0a ∷ 1 ∷ 0x7f ∷ 0x32 ∷ 0 ∷ 0 ∷ 0 ∷ 0x80 ∷ 1 ∷ 0x30 ∷ [])
+    ∷ (1 ∷ 0 ∷ 5 ∷ 0xff ∷ 0xff ∷ 0 ∷ 0 ∷ 0 ∷ 2 ∷ 0x12 ∷ 0 ∷ 0 ∷ 0 ∷ 0 ∷ 5 ∷ 0x0a ∷ 1 ∷ 0x7f ∷ 0x32 ∷ 0 ∷ [])
+    ∷ (1 ∷ 0 ∷ 3 ∷ 0 ∷ 7 ∷ [])
+    ∷ (1 ∷ 0 ∷ 2 ∷ 0 ∷ 7 ∷ 0 ∷ 0 ∷ 0 ∷ 1 ∷ 0x30 ∷ [])
+    ∷ (1 ∷ 0xff ∷ 0xfe ∷ 0 ∷ 7 ∷ 0 ∷ 0 ∷ 0 ∷ 1 ∷ 0x30 ∷ [])
+    ∷ (2 ∷ 0 ∷ 5 ∷ 0xff ∷ 0xff ∷ 0 ∷ 0 ∷ 0 ∷ 2 ∷ 0x12 ∷ 0 ∷ 0 ∷ 0 ∷ 0 ∷ 5 ∷ 0x0a ∷ 1 ∷ 0x7f ∷ 0x32 ∷ 0 ∷ 0 ∷ 0 ∷ 0 ∷ 4 ∷ 0x36 ∷ 8 ∷ 1 ∷ 0xc1 ∷ [])
+    ∷ (1 ∷ 0 ∷ 5 ∷ 0xff ∷ [])
+    ∷ []
+    ∷ []
+
+trains :
+    map packOf inputs
+    ≡ (1 ∷ 0 ∷ 5 ∷ 0xff ∷ 0xff ∷ 0x18 ∷ 8 ∷ 0x7f ∷ 0 ∷ 4 ∷ 0 ∷ 0 ∷ 0x10 ∷ 0x30 ∷ 0 ∷ 6 ∷ 0 ∷ 1 ∷ 0x10 ∷ 0x34 ∷ 8 ∷ 0xc1 ∷ [])
+    ∷ (1 ∷ 0 ∷ 5 ∷ 0xff ∷ 0xff ∷ 0x18 ∷ 8 ∷ 0x7f ∷ 0 ∷ 4 ∷ 0 ∷ 0 ∷ 0x10 ∷ 0x30 ∷ [])
+    ∷ (1 ∷ 0 ∷ 5 ∷ 0xff ∷ 0xff ∷ 0x18 ∷ 8 ∷ 0x7f ∷ 0 ∷ 4 ∷ 0 ∷ 0 ∷ 0x10 ∷ 0x30 ∷ [])
+    ∷ (1 ∷ 0 ∷ 5 ∷ 0xff ∷ 0xff ∷ 0x18 ∷ 8 ∷ 0x7f ∷ 0 ∷ 4 ∷ 0 ∷ 0 ∷ 0x10 ∷ 0x30 ∷ [])
+    ∷ (1 ∷ 0 ∷ 5 ∷ 0xff ∷ 0xff ∷ 0x18 ∷ 8 ∷ 0x7f ∷ 0 ∷ 4 ∷ 0 ∷ 0 ∷ 0x10 ∷ 0x30 ∷ [])
+    ∷ (1 ∷ 0 ∷ 5 ∷ 0xff ∷ 0xff ∷ 0x18 ∷ 8 ∷ 0x7f ∷ 0 ∷ 4 ∷ 0 ∷ 0 ∷ 0x10 ∷ 0x30 ∷ [])
+    ∷ (1 ∷ [])
+    ∷ (1 ∷ [])
+    ∷ (1 ∷ [])
+    ∷ []
+    ∷ []
+    ∷ []
+    ∷ []
+unfolding inputs headIn lengthIn numbered numberAfter unitIn packedFrom bigEndian valueAfter listed scanFrom frontOf headed fieldIn keep encodeIn planOf planFrom place insert spread fragmentOf needOf isFull chargeOf largestFragment elementsFrom nOf byteOf fielded payload payloadsFrom flatMap
+trains = refl
+
+stopBy : List ℕ → Head → Stop
+stopBy units (found h) = packedFrom (h .mtu) 0 (h .first) units 0 .stop
+stopBy units none = ended
+
+stops :
+    map (λ (l : List ℕ). stopBy (drop headWidth l) (headIn l)) inputs
+    ≡ ended ∷ refusedAt 2 3 ∷ cutAt 2 ∷ cutAt 2 ∷ cutAt 2 ∷ ended ∷ ended ∷ ended ∷ refusedAt 0 1 ∷ ended ∷ ended ∷ ended ∷ []
+unfolding inputs stopBy headIn lengthIn numbered numberAfter unitIn packedFrom bigEndian valueAfter listed scanFrom frontOf headed fieldIn keep encodeIn planOf planFrom place insert spread fragmentOf needOf isFull chargeOf largestFragment elementsFrom nOf byteOf fielded payload payloadsFrom flatMap
+stops = refl
