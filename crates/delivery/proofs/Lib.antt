@@ -9,3 +9,9 @@ pub mod Exchange
 pub mod Theorem
 pub mod NoLoss
 pub mod Instance
+pub mod UnitParts
+pub mod UnitPackets
+pub mod UnitObus
+pub mod OneUnit
+pub mod UnitsTheorem
+pub mod UnitsInstance

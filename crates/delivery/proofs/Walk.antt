@@ -108,7 +108,7 @@ alone true j = refl
 alone false j = refl
 
 -- one more OBU, with its last portion
-kept-cons : (taken : ℕ → Bool) (ps : List Portion) (k : ℕ) (b : List ℕ) (l : List (List Portion))
+pub kept-cons : (taken : ℕ → Bool) (ps : List Portion) (k : ℕ) (b : List ℕ) (l : List (List Portion))
     → map join (keep (whole taken) ((ps ++ (portion k b ∷ [])) ∷ l))
     ≡ cond (whole taken ps && taken k) ((join ps ++ b) ∷ map join (keep (whole taken) l)) (map join (keep (whole taken) l))
 unfolding keep

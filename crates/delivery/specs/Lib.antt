@@ -1,3 +1,4 @@
 pub mod Arrivals
 pub mod Calls
 pub mod Delivery
+pub mod Units

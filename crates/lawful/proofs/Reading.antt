@@ -2,6 +2,7 @@
 --     carried-read    this, in the terms of `element`
 --     carried-short   its length is within L3
 --     carried-count   there are as many payloads as packets
+--     carry-append    trains one after the other
 use mathlib.Core.Path.{_≡_, refl, sym, ap, subst, _∙_}
 use Prim.Native.Nat.{ℕ, zero, suc, _+_, _*_, _^_, _≤_, _<_}
 use native.Mathlib.Nat.{pow-succ'}
@@ -121,3 +122,9 @@ carried-count [] [] c = refl
 carried-count [] (p ∷ run) c = absurd c
 carried-count (b ∷ payloads) [] c = absurd c
 carried-count (b ∷ payloads) (p ∷ run) c = ap suc (carried-count payloads run (c .1))
+
+pub carry-append : (a b : List (List ℕ)) (p q : List Packet) → CarryAll a p → CarryAll b q → CarryAll (a ++ b) (p ++ q)
+carry-append [] b [] q c d = d
+carry-append [] b (x ∷ p) q c d = absurd c
+carry-append (x ∷ a) b [] q c d = absurd c
+carry-append (x ∷ a) b (y ∷ p) q c d = (c .0, carry-append a b p q (c .1) d)

@@ -5,14 +5,14 @@
 --     run-chained, run-cutting      a run of packets is that of some train exactly if Z repeats the Y before it and no packet is without elements
 use mathlib.Core.Path.{_≡_, refl, ap, _∙_}
 use Prim.Native.Nat.{ℕ, suc, _+_, _<_}
-use native.Mathlib.Nat.{add-zero, add-suc, suc-add, zero-add}
+use native.Mathlib.Nat.{add-zero, add-suc, suc-add}
 use native.Mathlib.Omega.{arith}
 use mathlib.Core.List.{List, [], _∷_, _++_, map, append-assoc, append-nil}
-use mathlib.Core.Bool.{Bool, true, false, _&&_, and-true, and-assoc, false≢true}
+use mathlib.Core.Bool.{Bool, true, false, not, _&&_, and-true, and-assoc, false≢true}
 use lib.ListN.{length}
 use Rattle.base.specs.Lists.{All}
-use Rattle.lawful.specs.Train.{Piece, cut, inner, final, NonEmpty, Full, closed, Packet, packets, runOf, Portion, portion, obus, obusIn, join, whole}
-use Rattle.lawful.proofs.Lists.{length-snoc, all-snoc, map-append}
+use Rattle.lawful.specs.Train.{Piece, cut, inner, final, bytesIn, NonEmpty, Full, closed, Packet, packets, runOf, Portion, portion, obus, obusIn, join, whole}
+use Rattle.lawful.proofs.Lists.{length-snoc, all-append, all-snoc, map-append}
 
 -- ---- one more portion of an OBU
 
@@ -77,8 +77,8 @@ obus-next (final b ∷ t) u c z es k ps e h i =
     (ap {B = List (List Portion)} (λ l. (ps ++ (portion k b ∷ [])) ∷ l) (obus-next t u true false [] (suc k) [] e (λ q. refl) (λ q. refl)))
 
 -- the OBUs of the second train, their packets further on by those of the first
-pub obus-append : (t u : List Piece) → closed true t ≡ true → obusIn (t ++ u) ≡ obusIn t ++ obus (length (runOf t)) [] u
-obus-append t u e = obus-next t u true false [] 0 [] e (λ q. refl) (λ q. refl) ∙ rw zero-add
+pub obus-append : (k : ℕ) (t u : List Piece) → closed true t ≡ true → obus k [] (t ++ u) ≡ obus k [] t ++ obus (k + length (runOf t)) [] u
+obus-append k t u e = obus-next t u true false [] k [] e (λ q. refl) (λ q. refl)
 
 -- their bytes do not depend on the packets before
 pub join-shift : (t : List Piece) (k n : ℕ) (ps qs : List Portion) → join ps ≡ join qs → map join (obus k ps t) ≡ map join (obus n qs t)
@@ -89,7 +89,7 @@ join-shift (inner b ∷ t) k n ps qs e = rw (join-portion ps k b, join-portion q
 join-shift (final b ∷ t) k n ps qs e = rw (join-portion ps k b, join-portion qs n b, e, join-shift t (suc k) (suc n) [] [] refl)
 
 pub join-append : (t u : List Piece) → closed true t ≡ true → map join (obusIn (t ++ u)) ≡ map join (obusIn t) ++ map join (obusIn u)
-join-append t u e = rw (obus-append t u e, join-shift u 0 (length (runOf t)) [] [] refl) (map-append join (obusIn t) _)
+join-append t u e = rw (obus-append 0 t u e, join-shift u 0 (0 + length (runOf t)) [] [] refl) (map-append join (obusIn t) _)
 
 -- ---- runs of packets that are those of a train
 
@@ -137,3 +137,34 @@ run-cutting z (p ∷ ps) h = go (p .elements) refl (h .1) (run-cutting (p .y) ps
     go (f ∷ fs) e l ih =
         let a : packets z [] (piecesOf (p .y) (p .elements) ++ cutting ps) ≡ record { z = z; y = p .y; elements = f ∷ fs } ∷ packets (p .y) [] (cutting ps) = rw e (packets-pieces (p .y) z [] f fs (cutting ps)) in
         a ∙ rw (← e, ← (h .0), ih)
+
+-- ---- what holds of such a train
+
+pieces-full : (y : Bool) (es : List (List ℕ)) → All NonEmpty es → Full (piecesOf y es)
+unfolding piecesOf
+pieces-full y [] h = tt
+pieces-full true (e ∷ []) h = (h .0, tt)
+pieces-full false (e ∷ []) h = (h .0, tt)
+pieces-full y (e ∷ f ∷ es) h = (h .0, pieces-full y (f ∷ es) (h .1))
+
+pub cutting-full : (ps : List Packet) → All (λ p. All NonEmpty (p .elements)) ps → Full (cutting ps)
+unfolding cutting
+cutting-full [] h = tt
+cutting-full (p ∷ ps) h = all-append (λ q. NonEmpty (bytesIn q)) (piecesOf (p .y) (p .elements)) (cutting ps) (pieces-full (p .y) (p .elements) (h .0)) (cutting-full ps (h .1))
+
+closed-pieces : (c y : Bool) (es : List (List ℕ)) (t : List Piece) → 0 < length es → closed c (piecesOf y es ++ t) ≡ closed (not y) t
+unfolding closed piecesOf
+closed-pieces c y [] t l = absurd (omega arith)
+closed-pieces c true (e ∷ []) t l = refl
+closed-pieces c false (e ∷ []) t l = refl
+closed-pieces c y (e ∷ f ∷ es) t l = closed-pieces false y (f ∷ es) t (omega arith)
+
+-- the Y of the last packet, or, with none, of the packet before
+unfoldable pub lastY : Bool → List Packet → Bool
+lastY y [] = y
+lastY y (p ∷ ps) = lastY (p .y) ps
+
+pub cutting-closed : (z : Bool) (ps : List Packet) → Chained z ps → closed (not z) (cutting ps) ≡ not (lastY z ps)
+unfolding closed cutting lastY
+cutting-closed z [] h = refl
+cutting-closed z (p ∷ ps) h = closed-pieces (not z) (p .y) (p .elements) (cutting ps) (h .1) ∙ cutting-closed (p .y) ps (h .2)

@@ -1,0 +1,131 @@
+-- Units under loss, by computation: every premise of the theorem is met, and the calls compute to what it says; and two trains fused. Assumes nothing.
+use mathlib.Core.Path.{_≡_, refl, sym, ap, subst, _∙_}
+use Prim.Native.Nat.{ℕ}
+use native.Mathlib.Omega.{arith}
+use mathlib.Core.List.{List, [], _∷_, _++_, map, flatMap}
+use lib.ListN.{length, getD, replicate}
+use Rattle.base.specs.Lists.{keep, All}
+use Rattle.leb128.specs.Field.{fieldIn, encodeIn}
+use Rattle.obu.specs.Front.{frontOf, headed}
+use Rattle.obu.specs.Unit.{scanFrom, listed, obusOf}
+use Rattle.obu.specs.Wire.{wholeOf, wire, wireOf}
+use Rattle.packetizer.specs.Fragment.{largestFragment}
+use Rattle.packetizer.specs.Plan.{chargeOf, isFull, needOf, fragmentOf, spread, insert, place, planFrom, planOf}
+use Rattle.packetizer.specs.Elements.{elementsFrom}
+use Rattle.packetizer.specs.Call.{planAnswer}
+use Rattle.aggregation.specs.Header.{nOf, byteOf}
+use Rattle.payloader.specs.Payload.{fielded, payload, payloadsFrom, payloadsOf}
+use Rattle.payloader.specs.Call.{payloadAnswer}
+use Rattle.element.specs.Elements.{elementAt, untilEnd, exactly, counting, elementsOf, payloadElements}
+use Rattle.receiver.specs.Joining.{fresh, isAhead, isInStep, joined, finished, left, handed, keptOpen, next, out}
+use Rattle.receiver.specs.Handing.{wires}
+use Rattle.receiver.specs.Call.{taken, outcome, stateOf}
+use Rattle.delivery.specs.Arrivals.{Near}
+use Rattle.delivery.specs.Calls.{Arrival, packetsIn, Call, calls, handedOut, verdicts}
+use Rattle.delivery.specs.Units.{Sending, Accepted, payloadsSent, UnitsDelivered}
+use Rattle.delivery.proofs.UnitsTheorem.{units-delivery}
+
+-- space for so many OBUs and packets, and so many bytes
+sending : ℕ → List ℕ → Sending
+sending mtu unit = record { mtu = mtu; unit = unit; obus = replicate 20 7; plan = replicate 25 7; output = replicate 20 7 }
+
+-- U7's unit at mtu 3, one with no kept OBU, U9's at 20, U11's at 3
+sendings : List Sending
+sendings =
+    sending 3 (0x12 ∷ 0 ∷ 0x0a ∷ 3 ∷ 0x11 ∷ 0x22 ∷ 0x33 ∷ 0x32 ∷ 5 ∷ 0xa1 ∷ 0xa2 ∷ 0xa3 ∷ 0xa4 ∷ 0xa5 ∷ [])
+    ∷ sending 7 (0x12 ∷ 0 ∷ [])
+    ∷ sending 20 (0x32 ∷ 0 ∷ 0x32 ∷ 0 ∷ 0x32 ∷ 0 ∷ 0x32 ∷ 0 ∷ [])
+    ∷ sending 3 (0x36 ∷ 8 ∷ 1 ∷ 0xc1 ∷ [])
+    ∷ []
+
+packets : List (List ℕ)
+packets =
+    (0x58 ∷ 8 ∷ 0x11 ∷ [])
+    ∷ (0x90 ∷ 0x22 ∷ 0x33 ∷ [])
+    ∷ (0x50 ∷ 0x30 ∷ 0xa1 ∷ [])
+    ∷ (0xd0 ∷ 0xa2 ∷ 0xa3 ∷ [])
+    ∷ (0x90 ∷ 0xa4 ∷ 0xa5 ∷ [])
+    ∷ (0x00 ∷ 1 ∷ 0x30 ∷ 1 ∷ 0x30 ∷ 1 ∷ 0x30 ∷ 1 ∷ 0x30 ∷ [])
+    ∷ (0x50 ∷ 0x34 ∷ 8 ∷ [])
+    ∷ (0x90 ∷ 0xc1 ∷ [])
+    ∷ []
+
+payloads-are : payloadsSent sendings ≡ packets
+unfolding packets sendings sending flatMap keep fieldIn encodeIn headed frontOf scanFrom largestFragment chargeOf isFull needOf fragmentOf spread insert place planFrom planOf elementsFrom nOf byteOf fielded payload payloadsFrom
+payloads-are = refl
+
+accepted : All Accepted sendings
+unfolding sendings sending flatMap keep fieldIn encodeIn headed frontOf scanFrom listed largestFragment chargeOf isFull needOf fragmentOf spread insert place planFrom planOf elementsFrom nOf byteOf fielded payload payloadsFrom planAnswer payloadAnswer
+accepted = ((omega arith, tt), ((omega arith, tt), ((omega arith, tt), ((omega arith, tt), tt))))
+
+-- the largest kept OBU has 6 bytes and the largest mtu is 20: a store of 6 bytes, outputs of 86, which hold something
+store : List ℕ
+store = replicate 6 0xee
+
+arrival : ℕ → Arrival
+arrival k = record { packet = k; output = replicate 86 0xdd }
+
+-- packet 0 is lost, 1 comes first, 3 twice, 5 late; the first packet has the number 65,533
+arrivals : List Arrival
+arrivals = map arrival (1 ∷ 2 ∷ 3 ∷ 3 ∷ 4 ∷ 6 ∷ 5 ∷ 7 ∷ [])
+
+made : List (List ℕ) → List Call
+made ps = calls ps 65533 (stateOf fresh) store arrivals
+
+-- the OBU in packets 2, 3 and 4, and the one in packets 6 and 7
+out-of : handedOut (made packets) ≡ 0x32 ∷ 5 ∷ 0xa1 ∷ 0xa2 ∷ 0xa3 ∷ 0xa4 ∷ 0xa5 ∷ 0x36 ∷ 8 ∷ 1 ∷ 0xc1 ∷ []
+unfolding made store arrival arrivals packets calls flatMap outcome taken payloadElements elementsOf counting untilEnd exactly elementAt fieldIn encodeIn isAhead isInStep joined finished left handed keptOpen next out wires wire wholeOf frontOf headed
+out-of = refl
+
+verdicts-of : verdicts (made packets) ≡ 0 ∷ 0 ∷ 0 ∷ 14 ∷ 0 ∷ 0 ∷ 14 ∷ 0 ∷ []
+unfolding made store arrival arrivals packets calls flatMap outcome taken payloadElements elementsOf counting untilEnd exactly elementAt fieldIn encodeIn isAhead isInStep joined finished left handed keptOpen next out wires wire wholeOf frontOf headed
+verdicts-of = refl
+
+out-is : handedOut (made (payloadsSent sendings)) ≡ 0x32 ∷ 5 ∷ 0xa1 ∷ 0xa2 ∷ 0xa3 ∷ 0xa4 ∷ 0xa5 ∷ 0x36 ∷ 8 ∷ 1 ∷ 0xc1 ∷ []
+out-is = ap (λ (ps : List (List ℕ)). handedOut (made ps)) payloads-are ∙ out-of
+
+verdicts-are : verdicts (made (payloadsSent sendings)) ≡ 0 ∷ 0 ∷ 0 ∷ 14 ∷ 0 ∷ 0 ∷ 14 ∷ 0 ∷ []
+verdicts-are = ap (λ (ps : List (List ℕ)). verdicts (made ps)) payloads-are ∙ verdicts-of
+
+-- every premise is met
+near : Near (length (payloadsSent sendings)) (packetsIn arrivals)
+unfolding arrivals arrival packets
+near =
+    subst (λ (ps : List (List ℕ)). Near (length ps) (packetsIn arrivals)) (sym payloads-are)
+    (omega arith, (omega arith, omega arith, omega arith, (omega arith, omega arith, omega arith, (omega arith, omega arith, omega arith, (omega arith, omega arith, omega arith, (omega arith, omega arith, omega arith, (omega arith, omega arith, omega arith, (omega arith, omega arith, omega arith, tt))))))))
+
+met : UnitsDelivered sendings 65533 store arrivals
+unfolding sendings sending store arrival arrivals keep fieldIn headed frontOf scanFrom
+met =
+    units-delivery sendings 65533 6 20 store arrivals accepted near
+    (record {
+      obus-fit = ((omega arith, (omega arith, tt)), (tt, ((omega arith, (omega arith, (omega arith, (omega arith, tt)))), ((omega arith, tt), tt))));
+      mtus-fit = (omega arith, (omega arith, (omega arith, (omega arith, tt))));
+      store-has = omega arith;
+      outputs-have = (omega arith, (omega arith, (omega arith, (omega arith, (omega arith, (omega arith, (omega arith, (omega arith, tt))))))));
+    })
+
+-- ---- why trains are never joined: packet 41 of one and then packet 42 of another, under one receiver, give an OBU that is in neither
+
+one : List ℕ
+one = 0x32 ∷ 2 ∷ 0xa1 ∷ 0xa2 ∷ []
+
+other : List ℕ
+other = 0x32 ∷ 2 ∷ 0xb1 ∷ 0xb2 ∷ []
+
+-- each packed alone at mtu 3, the first packet with the number 41
+fused : List (List ℕ)
+fused = getD (payloadsOf 3 one) 0 [] ∷ getD (payloadsOf 3 other) 1 [] ∷ []
+
+fused-are : fused ≡ (0x50 ∷ 0x30 ∷ 0xa1 ∷ []) ∷ (0x90 ∷ 0xb2 ∷ []) ∷ []
+unfolding fused one other flatMap keep fieldIn encodeIn headed frontOf scanFrom largestFragment chargeOf isFull needOf fragmentOf spread insert place planFrom planOf elementsFrom nOf byteOf fielded payload payloadsFrom
+fused-are = refl
+
+fused-out : handedOut (calls ((0x50 ∷ 0x30 ∷ 0xa1 ∷ []) ∷ (0x90 ∷ 0xb2 ∷ []) ∷ []) 41 (stateOf fresh) store (arrival 0 ∷ arrival 1 ∷ [])) ≡ 0x32 ∷ 2 ∷ 0xa1 ∷ 0xb2 ∷ []
+unfolding store arrival arrivals calls flatMap outcome taken payloadElements elementsOf counting untilEnd exactly elementAt fieldIn encodeIn isAhead isInStep joined finished left handed keptOpen next out wires wire wholeOf frontOf headed
+fused-out = refl
+
+-- the works themselves
+own : flatMap (wireOf one) (obusOf one) ++ flatMap (wireOf other) (obusOf other) ≡ 0x32 ∷ 2 ∷ 0xa1 ∷ 0xa2 ∷ 0x32 ∷ 2 ∷ 0xb1 ∷ 0xb2 ∷ []
+unfolding one other flatMap keep fieldIn encodeIn headed frontOf scanFrom
+own = refl
