@@ -486,18 +486,33 @@ def planlist(data):
     return "\n".join(lines) + "\n"
 
 
-def record_text(obu):
-    """An OBU record as `vectors` prints it."""
-    return "%d,%d,%d,%d,%d" % obu
+def records_text(records):
+    """Records as `vectors` prints them after their count."""
+    return "%d %s" % (len(records), ";".join(["%d,%d,%d,%d,%d" % record for record in records])) if records else "0"
 
 
-def vectors_line(numbers, unit):
-    """What `vectors` answers to one case: a lent OBU list of this many numbers, and a unit."""
+def vectors_line(mtu, obu_numbers, plan_numbers, out_bytes, unit):
+    """What `vectors` answers to one case: an mtu, lent lists of so many numbers, an output of so many bytes, a unit.
+
+    The payload call (C2) in its order; the lent slices themselves are not made here, since only their lengths count.
+    """
     try:
-        kept = kept_obus(unit, numbers // OBU_NUMBERS)
+        if mtu > MTU_LIMIT:
+            raise Refused(1)
+        kept = kept_obus(unit, obu_numbers // OBU_NUMBERS)
+        plan = plan_of([obu.size for obu in kept], mtu)
+        if len(plan) > plan_numbers // PLAN_NUMBERS:
+            raise Refused(9)
+        made = payloads(unit, kept, plan)
+        if sum(map(len, made)) > out_bytes:
+            raise Refused(10)
     except Refused as bad:
         return "refused %d %d" % (bad.number, bad.offset)
-    return "obus %d %s" % (len(kept), ";".join(map(record_text, kept))) if kept else "obus 0"
+    line = "obus %s packets %s" % (records_text(kept), records_text(plan))
+    if plan:
+        line += " headers %s payloads %s" % (",".join(["%02X" % header_byte(kept, p, k) for k, p in enumerate(plan)]),
+                                             ",".join([p.hex().upper() for p in made]))
+    return line
 
 
 def unit_of_text(text):
@@ -511,8 +526,8 @@ def vectors(text):
     """What `vectors` prints."""
     lines = []
     for line in text.splitlines():
-        numbers, unit = line.split(" ")
-        lines.append(vectors_line(int(numbers), unit_of_text(unit)) + "\n")
+        *numbers, unit = line.split(" ")
+        lines.append(vectors_line(*map(int, numbers), unit_of_text(unit)) + "\n")
     return "".join(lines)
 
 
@@ -623,8 +638,15 @@ def test_list(t):
     t.same("start of an empty payload", kept_obus(bytes.fromhex("36 08 80 00")), [Obu(0x36, 8, 4, 0, 2)])
     t.same("at the limit", kept_obus(b"\x30" + bytes(UNIT_LIMIT - 1)), [Obu(0x30, 0, 1, UNIT_LIMIT - 1, UNIT_LIMIT)])
     t.same("over the limit", answer(kept_obus, b"\x36" * (UNIT_LIMIT + 1)), [2, 0])
-    t.same("vectors", vectors("5 32003200\n0 -\n5 3200\n0 12007A00\n5 3001*4\n5 3200*2\n"),
-           "refused 8 2\nobus 0\nobus 1 50,0,2,0,1\nobus 0\nobus 1 48,0,1,3,4\nobus 1 50,0,2,0,1\n")
+    for case, want in [
+        ("2 5 0 0 32003200", "refused 8 2"), ("9 0 0 0 -", "obus 0 packets 0"), ("2 5 0 0 3200", "obus 1 50,0,2,0,1 packets 0"),
+        ("3 0 0 0 12007A00", "obus 0 packets 0"), ("65534 0 0 0 36", "refused 1 0"), ("3 5 4 9 3200", "refused 9 0"),
+        ("3 5 5 1 3200", "refused 10 0"),
+        ("3 5 5 2 3200*2", "obus 1 50,0,2,0,1 packets 1 0,1,0,1,1 headers 10 payloads 1030"),
+        ("3 5 10 5 3001*4", "refused 10 0"),
+        ("3 5 10 6 3001*4", "obus 1 48,0,1,3,4 packets 2 0,1,0,2,2;0,1,2,2,2 headers 50,90 payloads 503001,900101"),
+    ]:
+        t.same("vectors, %s" % case, vectors(case + "\n"), want + "\n")
 
 
 def test_plan(t):
@@ -656,6 +678,28 @@ def test_law(t):
         lengths = all(2 <= len(p) <= mtu and len(p) == packet.size + 1 for p, packet in zip(made, plan))
         joined = b"".join(b"".join(elements(p)) for p in made) == b"".join(sent(unit, o) for o in obus)
         t.same("law for %s, mtu %d" % (unit.hex(), mtu), (lengths, joined), (True, True))
+
+
+def test_vectors(t):
+    """vectors_line says what the payload call and the header call leave in lent slices."""
+    rng = random.Random(5)
+    for _ in range(2000):
+        unit = b"".join(bytes([rng.choice([0x0A, 0x12, 0x32])]) + write_field(n) + bytes(n) for n in
+                        [rng.choice([0, 0, 1, 2, 5, rng.randrange(150)]) for _ in range(rng.randrange(7))])
+        mtu, space = rng.choice([2, 3, 4, 7, 20, 150]), [rng.choice([n, 5 * rng.randrange(8)]) for n in (400, 4000, 4000)]
+        obus, plan, out = [7] * space[0], [7] * space[1], bytearray(space[2])
+        try:
+            count, packets, _ = payload(mtu, unit, obus, plan, out)
+            kept, rows = records(obus[:5 * count], Obu, 5), records(plan[:5 * packets], Packet, 5)
+            ends = [sum(r.size + 1 for r in rows[:k + 1]) for k in range(packets)]
+            want = "obus %s packets %s" % (records_text(kept), records_text(rows))
+            if packets:
+                want += " headers %s payloads %s" % (
+                    ",".join("%02X" % get_aggregation_header(obus, plan, k) for k in range(packets)),
+                    ",".join(out[e - r.size - 1:e].hex().upper() for e, r in zip(ends, rows)))
+        except Refused as bad:
+            want = "refused %d %d" % (bad.number, bad.offset)
+        t.same("vectors_line for %s, mtu %d" % (unit.hex(), mtu), vectors_line(mtu, *space, unit), want)
 
 
 def test_left(t):
@@ -833,7 +877,7 @@ def test_programs(t):
 
 def self_test():
     t = Test()
-    for test in (test_fields, test_list, test_plan, test_law, test_left, test_header, test_elements, test_receiver,
+    for test in (test_fields, test_list, test_plan, test_law, test_vectors, test_left, test_header, test_elements, test_receiver,
                  test_delivery, test_programs):
         test(t)
     print("%d rows, %d do not hold" % (t.rows, t.failed))

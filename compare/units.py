@@ -1,16 +1,18 @@
 """The units that are compared: made the same at each run, by fixed seeds and by counting.
 
-A case is a kind, how many numbers the lent OBU list has, an mtu, and the unit. `cases()` gives all of them.
+A case is a kind, how many numbers the lent OBU list and the lent plan list have, how many bytes the lent output has, an
+mtu, and the unit. `cases()` gives all of them.
 This file makes bytes; it knows nothing of what the rules or the crate answer.
 """
 import itertools
 import random
 from collections import namedtuple
 
-Case = namedtuple("Case", "kind numbers mtu unit")
+Case = namedtuple("Case", "kind numbers mtu unit plan output")
 
 LIMIT = 1_048_576               # bytes of a unit
-MOST_NUMBERS = 20_000           # of a lent OBU list; `vectors` has one of 20,480
+MOST_NUMBERS = 20_000           # of a lent list; `vectors` has two of 20,480
+MOST_OUTPUT = 262_144           # bytes of a lent output
 HEADERS = bytes(kind << 3 | bits for kind in (1, 2, 3, 6, 8, 15) for bits in (0, 2, 4, 6))
 RESERVED = bytes([0xB2, 0x33, 0x8F, 0x95])          # header bytes with bit 7, bit 0 or both set
 SIZES = bytes([0x00, 0x01, 0x02, 0x7F, 0x80, 0x81, 0xFF])
@@ -97,6 +99,21 @@ def lent(dice, unit, count):
     return min(MOST_NUMBERS, dice.below(5 * count + 5))
 
 
+def rest(unit, mtu):
+    """Numbers of the plan list and bytes of the output: eight times in ten ample, else one of them near what the unit may need.
+
+    Decided by the unit's own bytes, so that units and lists stay the same at each run.
+    """
+    dice = Dice("%d %s" % (mtu, unit[:64].hex()))
+    roll = dice.below(10)
+    packets = len(unit) // max(1, mtu - 1) + 3
+    if roll == 0:
+        return min(MOST_NUMBERS, dice.below(5 * packets)), MOST_OUTPUT
+    if roll == 1:
+        return MOST_NUMBERS, min(MOST_OUTPUT, dice.below(len(unit) + 2 * packets))
+    return MOST_NUMBERS, MOST_OUTPUT
+
+
 def mtu_of(dice):
     """An mtu: 0 to 200, small ones more often, and some large."""
     roll = dice.below(100)
@@ -108,7 +125,8 @@ def mtu_of(dice):
 
 
 def case(kind, dice, unit, count, mtu=None):
-    return Case(kind, lent(dice, unit, count), mtu_of(dice) if mtu is None else mtu, unit)
+    numbers, mtu = lent(dice, unit, count), mtu_of(dice) if mtu is None else mtu
+    return Case(kind, numbers, mtu, unit, *rest(unit, mtu))
 
 
 # ---- kinds that count through all there are
@@ -253,7 +271,7 @@ def at_limit():
         (ample, 0, b"\x32" + field(full - 3) + bytes(full - 4)),
         (ample, 1200, row * 4000), (ample - 1, 1200, row * 4000), (ample, 1200, row * 4001),
     ):
-        yield Case("at the limit", numbers, mtu, unit)
+        yield Case("at the limit", numbers, mtu, unit, ample, MOST_OUTPUT)
 
 
 # ---- all of them

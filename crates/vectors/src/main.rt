@@ -1,23 +1,46 @@
 // Answers cases, a line each: it replays the fixed list of answers in the gate, and compare/ feeds it many units.
 //
-// A case is the number of numbers in the lent OBU list, in decimal, a blank, and the unit in hexadecimal capitals, or `-` if
-// it is empty; `*` and a decimal number after it say that its last byte is repeated until it has so many bytes. Its answer is
-// `obus`, their count and their records, or `refused`, the number and the offset.
+// A case is the mtu, the numbers of the lent OBU list and of the lent plan list, the bytes of the lent output, all in decimal,
+// and the unit in hexadecimal capitals, or `-` if it is empty, with blanks between; `*` and a decimal number after the unit say
+// that its last byte is repeated until it has so many bytes. Its answer is `refused`, the number and the offset; or `obus`, their
+// count and records, `packets`, their count and records, `headers` and `payloads`, one for each packet. After a count of 0
+// nothing stands for its records, and after no packets no headers and no payloads.
+use aggregation::HeaderAnswer;
 use libc::STDIN_FILENO;
 use libc::STDOUT_FILENO;
-use obu::ObuList;
+use payloader::PayloadAnswer;
+use payloader::Payloads;
 ghost use Prim.Native.Nat.{_≤_, _<_};
+ghost use lib.ListN.{length};
+ghost use Rattle.io.specs.Counts.{Counts};
 
-// One byte more than the longest unit, and the longest list.
+// One byte more than the longest unit, the longest lists, and the longest output.
 const UNIT_STORE: usize = 1048577;
 
 const LIST_STORE: usize = 20480;
 
-// What was read of a line: the list's length, whether the blank has come, the first half of a byte if it has, the unit's length,
+const OUTPUT_STORE: usize = 262144;
+
+// How many bytes are printed at once.
+const CHUNK: usize = 2048;
+
+// The numbers that stand before the unit.
+const MTU: usize = 0;
+
+const OBUS: usize = 1;
+
+const PLAN: usize = 2;
+
+const OUTPUT: usize = 3;
+
+// What was read of a line: which word it is in, the four numbers, the first half of a byte if it has come, the unit's length,
 // its last byte, whether the star has come, and the number after it.
 struct Line {
-    numbers: usize,
-    blank: bool,
+    word: usize,
+    mtu: usize,
+    obus: usize,
+    plan: usize,
+    output: usize,
     half: bool,
     high: u8,
     length: usize,
@@ -28,8 +51,11 @@ struct Line {
 
 fn empty_line() -> Line {
     Line {
-        numbers: 0,
-        blank: false,
+        word: 0,
+        mtu: 0,
+        obus: 0,
+        plan: 0,
+        output: 0,
         half: false,
         high: 0,
         length: 0,
@@ -113,8 +139,9 @@ fn print_at(list: &[u32], k: usize) {
     }
 }
 
-fn print_records(list: &[u32], obus: usize) {
-    let end = smaller(obus, LIST_STORE) * obu::OBU_NUMBERS;
+// The first records of a list. OBU records and plan records have as many numbers.
+fn print_records(list: &[u32], records: usize) {
+    let end = smaller(records, LIST_STORE) * obu::OBU_NUMBERS;
     let mut k: usize = 0;
     while k < end {
         print_at(list, k);
@@ -122,15 +149,136 @@ fn print_records(list: &[u32], obus: usize) {
     }
 }
 
-// The answer of the list call for one case.
-fn answer(unit: &[u8], list: &mut [u32]) {
-    match obu::parse_obus(unit, list) {
-        ObuList::Listed(listed) => {
-            io::write_all(STDOUT_FILENO, b"obus ");
-            print_count(listed.obus);
-            print_records(list, listed.obus);
+// A hexadecimal digit, in capitals.
+fn letter(d: u8) -> u8
+    requires { ⌜ d < 16 ⌝ }
+{
+    if d < 10 { 48 + d } else { 55 + d }
+}
+
+fn high_letter(b: u8) -> u8 {
+    letter(b / 16)
+}
+
+fn low_letter(b: u8) -> u8 {
+    letter(b % 16)
+}
+
+// The digits of some bytes, as far as there is space: how many there are.
+fn put_digits(bytes: &[u8], text: &mut [u8]) -> usize
+    ensures { λ r. ⌜ Counts r (now (text .exit)) ⌝ }
+{
+    let n = smaller(bytes.len(), text.len() / 2);
+    let mut i: usize = 0;
+    while i < n {
+        put_byte(text, i * 2, high_letter(bytes[i]));
+        put_byte(text, i * 2 + 1, low_letter(bytes[i]));
+        i += 1;
+    }
+    n * 2
+}
+
+// At most CHUNK bytes.
+fn print_chunk(bytes: &[u8]) {
+    let mut text = io::buffer();
+    let n = put_digits(bytes, &mut text);
+    io::write_all(STDOUT_FILENO, &text[..n]);
+}
+
+// The bytes from `from` up to `to`, in hexadecimal.
+fn print_bytes(bytes: &[u8], from: usize, to: usize)
+    requires { ⌜ (from ≤ to) × (to ≤ length (now bytes)) ⌝ }
+{
+    let mut at = from;
+    let mut turns = (to - from) / CHUNK + 1;
+    while turns > 0 {
+        let end = at + smaller(to - at, CHUNK);
+        print_chunk(&bytes[at..end]);
+        at = end;
+        turns -= 1;
+    }
+}
+
+// What stands before a header or a payload: a blank before the first, a comma before any other.
+fn print_between(k: usize) {
+    if k == 0 {
+        io::write_all(STDOUT_FILENO, b" ");
+    } else {
+        io::write_all(STDOUT_FILENO, b",");
+    }
+}
+
+// The aggregation header of packet k, by the header call.
+fn print_header(obus: &[u32], plan: &[u32], k: usize) {
+    match aggregation::get_aggregation_header(obus, plan, k) {
+        HeaderAnswer::Header(header) => {
+            print_chunk(&[header]);
         }
-        ObuList::Refused { refusal, at } => {
+        HeaderAnswer::Refused(refusal) => {
+            io::write_all(STDOUT_FILENO, b"refused ");
+            print_number(base::number(refusal));
+        }
+    }
+}
+
+fn print_headers(obus: &[u32], plan: &[u32], packets: usize) {
+    let mut k: usize = 0;
+    while k < packets {
+        print_between(k);
+        print_header(obus, plan, k);
+        k += 1;
+    }
+}
+
+fn one_more(n: u32) -> usize {
+    n as usize + 1
+}
+
+// How many bytes payload k has, by its record.
+fn payload_size(plan: &[u32], k: usize) -> usize {
+    let at = smaller(k, LIST_STORE) * packetizer::PLAN_NUMBERS + 4;
+    if at < plan.len() {
+        one_more(plan[at])
+    } else {
+        0
+    }
+}
+
+// The payloads in the output, one after the other.
+fn print_payloads(plan: &[u32], output: &[u8], packets: usize) {
+    let mut at: usize = 0;
+    let mut k: usize = 0;
+    while k < packets {
+        let end = at + smaller(payload_size(plan, k), output.len() - at);
+        print_between(k);
+        print_bytes(output, at, end);
+        at = end;
+        k += 1;
+    }
+}
+
+fn print_written(written: Payloads, obus: &[u32], plan: &[u32], output: &[u8]) {
+    io::write_all(STDOUT_FILENO, b"obus ");
+    print_count(written.obus);
+    print_records(obus, written.obus);
+    io::write_all(STDOUT_FILENO, b" packets ");
+    print_count(written.packets);
+    print_records(plan, written.packets);
+    if written.packets > 0 {
+        io::write_all(STDOUT_FILENO, b" headers");
+        print_headers(obus, plan, written.packets);
+        io::write_all(STDOUT_FILENO, b" payloads");
+        print_payloads(plan, output, written.packets);
+    }
+}
+
+// The answer of the payload call for one case.
+fn answer(mtu: usize, unit: &[u8], obus: &mut [u32], plan: &mut [u32], output: &mut [u8]) {
+    match payloader::payload(mtu, unit, obus, plan, output) {
+        PayloadAnswer::Written(written) => {
+            print_written(written, obus, plan, output);
+        }
+        PayloadAnswer::Refused { refusal, at } => {
             io::write_all(STDOUT_FILENO, b"refused ");
             print_number(base::number(refusal));
             io::write_all(STDOUT_FILENO, b" ");
@@ -140,31 +288,42 @@ fn answer(unit: &[u8], list: &mut [u32]) {
     io::write_all(STDOUT_FILENO, b"\n");
 }
 
-fn end_of_line(line: Line, unit: &mut [u8], list: &mut [u32]) {
+fn end_of_line(line: Line, unit: &mut [u8], obus: &mut [u32], plan: &mut [u32], output: &mut [u8]) {
     repeat_byte(unit, line.length, line.repeated, line.last);
     let length = smaller(larger(line.length, line.repeated), unit.len());
-    let numbers = smaller(line.numbers, list.len());
-    answer(&unit[..length], &mut list[..numbers]);
+    let listed = smaller(line.obus, obus.len());
+    let planned = smaller(line.plan, plan.len());
+    let bytes = smaller(line.output, output.len());
+    answer(
+        line.mtu,
+        &unit[..length],
+        &mut obus[..listed],
+        &mut plan[..planned],
+        &mut output[..bytes],
+    );
 }
 
-// One byte of the input.
-fn step(line: Line, b: u8, unit: &mut [u8], list: &mut [u32]) -> Line {
+// A digit of one of the four numbers.
+fn count_digit(line: Line, b: u8) -> Line {
     let mut next = line;
-    if b == 10 {
-        end_of_line(line, unit, list);
-        return empty_line();
+    if line.word == MTU {
+        next.mtu = longer(line.mtu, b);
     }
-    if b == 45 {
-        return next;
+    if line.word == OBUS {
+        next.obus = longer(line.obus, b);
     }
-    if b == 32 {
-        next.blank = true;
-        return next;
+    if line.word == PLAN {
+        next.plan = longer(line.plan, b);
     }
-    if !line.blank {
-        next.numbers = longer(line.numbers, b);
-        return next;
+    if line.word == OUTPUT {
+        next.output = longer(line.output, b);
     }
+    next
+}
+
+// A byte of the unit's text.
+fn unit_text(line: Line, b: u8, unit: &mut [u8]) -> Line {
+    let mut next = line;
     if b == 42 {
         next.star = true;
         return next;
@@ -187,18 +346,53 @@ fn step(line: Line, b: u8, unit: &mut [u8], list: &mut [u32]) -> Line {
     next
 }
 
-fn feed(line: Line, text: &[u8], unit: &mut [u8], list: &mut [u32]) -> Line {
+// One byte of the input.
+fn step(
+    line: Line,
+    b: u8,
+    unit: &mut [u8],
+    obus: &mut [u32],
+    plan: &mut [u32],
+    output: &mut [u8],
+) -> Line {
+    if b == 10 {
+        end_of_line(line, unit, obus, plan, output);
+        return empty_line();
+    }
+    if b == 45 {
+        return line;
+    }
+    if b == 32 {
+        let mut next = line;
+        next.word = smaller(line.word, OUTPUT) + 1;
+        return next;
+    }
+    if line.word <= OUTPUT {
+        count_digit(line, b)
+    } else {
+        unit_text(line, b, unit)
+    }
+}
+
+fn feed(
+    line: Line,
+    text: &[u8],
+    unit: &mut [u8],
+    obus: &mut [u32],
+    plan: &mut [u32],
+    output: &mut [u8],
+) -> Line {
     let mut now = line;
     let mut i: usize = 0;
     while i < text.len() {
-        now = step(now, text[i], unit, list);
+        now = step(now, text[i], unit, obus, plan, output);
         i += 1;
     }
     now
 }
 
 // Reads to the end of the input. The turns only say that the loop ends: no run uses them up.
-fn replay(text: &mut [u8], unit: &mut [u8], list: &mut [u32]) {
+fn replay(text: &mut [u8], unit: &mut [u8], obus: &mut [u32], plan: &mut [u32], output: &mut [u8]) {
     let mut line = empty_line();
     let mut turns = u64::MAX;
     while turns > 0 {
@@ -206,7 +400,7 @@ fn replay(text: &mut [u8], unit: &mut [u8], list: &mut [u32]) {
         if n == 0 {
             return;
         }
-        line = feed(line, &text[..n], unit, list);
+        line = feed(line, &text[..n], unit, obus, plan, output);
         turns -= 1;
     }
 }
@@ -214,6 +408,8 @@ fn replay(text: &mut [u8], unit: &mut [u8], list: &mut [u32]) {
 fn main() {
     let mut text = [0u8; 65536];
     let mut unit = [0u8; UNIT_STORE];
-    let mut list = [0u32; LIST_STORE];
-    replay(&mut text, &mut unit, &mut list);
+    let mut obus = [0u32; LIST_STORE];
+    let mut plan = [0u32; LIST_STORE];
+    let mut output = [0u8; OUTPUT_STORE];
+    replay(&mut text, &mut unit, &mut obus, &mut plan, &mut output);
 }

@@ -4,12 +4,6 @@ use lib.Seq.{length-take-le}
 use borrow.Author.Needs.{needs}
 use Rattle.vectors.proofs.end_of_line.Statement.{statement}
 use Rattle.vectors.proofs.end_of_line.Tie as tie
-use Rattle.vectors.proofs.end_of_line.Reads as reads
-use Rattle.vectors.proofs.end_of_line.Lts as lts
-use Rattle.vectors.proofs.answer.Reads as answer-reads
-use Rattle.vectors.proofs.larger.Reads as larger-reads
-use Rattle.vectors.proofs.repeat_byte.Reads as repeat-byte-reads
-use Rattle.vectors.proofs.smaller.Reads as smaller-reads
 
 repeat-byte-requires : tie.Need-repeat-byte-requires
 repeat-byte-requires c κs = search needs
@@ -23,17 +17,35 @@ smaller-requires c κs = search needs
 smaller-requires-2 : tie.Need-smaller-requires-2
 smaller-requires-2 c κs = search needs
 
+smaller-requires-3 : tie.Need-smaller-requires-3
+smaller-requires-3 c κs = search needs
+
+smaller-requires-4 : tie.Need-smaller-requires-4
+smaller-requires-4 c κs = search needs
+
 slice-reshare-prefix-answer : tie.Need-slice-reshare-prefix-answer
 slice-reshare-prefix-answer c = search needs
 
 slice-aggregate-answer : tie.Need-slice-aggregate-answer
-slice-aggregate-answer c = sym (length-take-le (c .before .before .smaller .result) (c .before .before .before .before .before .before .repeat-byte .last .0) (omega arith))
+slice-aggregate-answer c = sym (length-take-le (c .before .before .before .before .smaller .result) (c .before .before .before .before .before .before .before .before .repeat-byte .last .0) (omega arith))
 
 slice-relend-prefix-answer : tie.Need-slice-relend-prefix-answer
 slice-relend-prefix-answer c = search needs
 
 slice-aggregate-answer-2 : tie.Need-slice-aggregate-answer-2
-slice-aggregate-answer-2 c = sym (length-take-le (c .before .before .smaller2 .result) (c .before .before .before .before .before .before .before .before .before .before .before .args .list .now) (omega arith))
+slice-aggregate-answer-2 c = sym (length-take-le (c .before .before .before .before .smaller2 .result) (c .before .before .before .before .before .before .before .before .before .before .before .before .before .before .before .args .obus .now) (omega arith))
+
+slice-relend-prefix-answer-2 : tie.Need-slice-relend-prefix-answer-2
+slice-relend-prefix-answer-2 c = search needs
+
+slice-aggregate-answer-3 : tie.Need-slice-aggregate-answer-3
+slice-aggregate-answer-3 c = sym (length-take-le (c .before .before .before .before .smaller3 .result) (c .before .before .before .before .before .before .before .before .before .before .before .before .before .before .before .before .args .plan .now) (omega arith))
+
+slice-relend-prefix-answer-3 : tie.Need-slice-relend-prefix-answer-3
+slice-relend-prefix-answer-3 c = search needs
+
+slice-aggregate-answer-4 : tie.Need-slice-aggregate-answer-4
+slice-aggregate-answer-4 c = sym (length-take-le (c .before .before .before .before .smaller4 .result) (c .before .before .before .before .before .before .before .before .before .before .before .before .before .before .before .before .before .args .output .now) (omega arith))
 
 answer-requires : tie.Need-answer-requires
 answer-requires c κs = search needs
@@ -43,6 +55,12 @@ same-length c = search needs
 
 same-length-2 : tie.Need-same-length-2
 same-length-2 c = search needs
+
+same-length-3 : tie.Need-same-length-3
+same-length-3 c = search needs
+
+same-length-4 : tie.Need-same-length-4
+same-length-4 c = search needs
 
 returns : tie.Need-returns
 returns c = search needs
@@ -55,11 +73,19 @@ end-of-line-spec =
     larger-requires
     smaller-requires
     smaller-requires-2
+    smaller-requires-3
+    smaller-requires-4
     slice-reshare-prefix-answer
     slice-aggregate-answer
     slice-relend-prefix-answer
     slice-aggregate-answer-2
+    slice-relend-prefix-answer-2
+    slice-aggregate-answer-3
+    slice-relend-prefix-answer-3
+    slice-aggregate-answer-4
     answer-requires
     same-length
     same-length-2
+    same-length-3
+    same-length-4
     returns)

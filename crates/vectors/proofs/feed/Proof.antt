@@ -1,18 +1,15 @@
 use mathlib.Core.Path.{_≡_}
-use Prim.Native.Nat.{_-_}
+use Prim.Native.Nat.{_-_, _≤_}
 use lib.ListN.{length}
 use borrow.Author.Needs.{needs}
 use Rattle.vectors.proofs.feed.Statement.{statement}
 use Rattle.vectors.proofs.feed.Tie as tie
-use Rattle.vectors.proofs.feed.Reads as reads
-use Rattle.vectors.proofs.feed.Lts as lts
-use Rattle.vectors.proofs.step.Reads as step-reads
 
 abbrev Inv-loop : tie.InvT-loop
-Inv-loop text unit₀ list₀ now₀ i₀ unit list now i = (length unit ≡ length unit₀) × (length list ≡ length list₀)
+Inv-loop text unit₀ obus₀ plan₀ output₀ now₀ i₀ unit obus plan output now i = (length unit ≡ length unit₀) × (length obus ≡ length obus₀) × (length plan ≡ length plan₀) × (length output ≡ length output₀)
 
 abbrev μ-loop : tie.MeasureT-loop
-μ-loop text unit₀ list₀ now₀ i₀ unit list now i = length text - i
+μ-loop text unit₀ obus₀ plan₀ output₀ now₀ i₀ unit obus plan output now i = length text - i
 
 loop-holds : tie.Need-loop-holds Inv-loop μ-loop
 loop-holds c = search needs
@@ -38,6 +35,12 @@ same-length c = search needs
 same-length-2 : tie.Need-same-length-2 Inv-loop μ-loop
 same-length-2 c = search needs
 
+same-length-3 : tie.Need-same-length-3 Inv-loop μ-loop
+same-length-3 c = search needs
+
+same-length-4 : tie.Need-same-length-4 Inv-loop μ-loop
+same-length-4 c = search needs
+
 returns : tie.Need-returns Inv-loop μ-loop
 returns c = search needs
 
@@ -55,4 +58,6 @@ feed-spec =
     loop-again
     same-length
     same-length-2
+    same-length-3
+    same-length-4
     returns)

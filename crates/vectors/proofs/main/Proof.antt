@@ -4,9 +4,6 @@ use lib.ListN.{length-replicate}
 use borrow.Author.Needs.{needs}
 use Rattle.vectors.proofs.main.Statement.{statement}
 use Rattle.vectors.proofs.main.Tie as tie
-use Rattle.vectors.proofs.main.Reads as reads
-use Rattle.vectors.proofs.main.Lts as lts
-use Rattle.vectors.proofs.replay.Reads as replay-reads
 
 slice-aggregate-replay : tie.Need-slice-aggregate-replay
 slice-aggregate-replay c = search needs
@@ -16,6 +13,12 @@ slice-aggregate-replay-2 c = sym (length-replicate {0} {A = ℕ} 1048577 0)
 
 slice-aggregate-replay-3 : tie.Need-slice-aggregate-replay-3
 slice-aggregate-replay-3 c = search needs
+
+slice-aggregate-replay-4 : tie.Need-slice-aggregate-replay-4
+slice-aggregate-replay-4 c = search needs
+
+slice-aggregate-replay-5 : tie.Need-slice-aggregate-replay-5
+slice-aggregate-replay-5 c = sym (length-replicate {0} {A = ℕ} 262144 0)
 
 replay-requires : tie.Need-replay-requires
 replay-requires c κs = search needs
@@ -30,5 +33,7 @@ main-spec =
     slice-aggregate-replay
     slice-aggregate-replay-2
     slice-aggregate-replay-3
+    slice-aggregate-replay-4
+    slice-aggregate-replay-5
     replay-requires
     returns)

@@ -3,10 +3,6 @@ use lib.ListN.{length}
 use borrow.Author.Needs.{needs}
 use Rattle.vectors.proofs.print_records.Statement.{statement}
 use Rattle.vectors.proofs.print_records.Tie as tie
-use Rattle.vectors.proofs.print_records.Reads as reads
-use Rattle.vectors.proofs.print_records.Lts as lts
-use Rattle.vectors.proofs.print_at.Reads as print-at-reads
-use Rattle.vectors.proofs.smaller.Reads as smaller-reads
 
 abbrev Inv-loop : tie.InvT-loop
 Inv-loop list obus end k₀ k = Unit {0}

@@ -4,9 +4,6 @@ use lib.ListN.{length}
 use borrow.Author.Needs.{needs}
 use Rattle.vectors.proofs.repeat_byte.Statement.{statement}
 use Rattle.vectors.proofs.repeat_byte.Tie as tie
-use Rattle.vectors.proofs.repeat_byte.Reads as reads
-use Rattle.vectors.proofs.repeat_byte.Lts as lts
-use Rattle.vectors.proofs.put_byte.Reads as put-byte-reads
 
 abbrev Inv-loop : tie.InvT-loop
 Inv-loop unit₀ from to b at₀ unit at = length unit ≡ length unit₀

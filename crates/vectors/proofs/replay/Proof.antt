@@ -1,21 +1,15 @@
 use mathlib.Core.Path.{_≡_}
-use Prim.Native.Nat.{_-_}
+use Prim.Native.Nat.{_-_, _≤_}
 use lib.ListN.{length}
 use borrow.Author.Needs.{needs}
 use Rattle.vectors.proofs.replay.Statement.{statement}
 use Rattle.vectors.proofs.replay.Tie as tie
-use Rattle.vectors.proofs.replay.Reads as reads
-use Rattle.vectors.proofs.replay.Lts as lts
-use Rattle.io.proofs.count.Reads as count-reads
-use Rattle.libc.proofs.read.Reads as read-reads
-use Rattle.vectors.proofs.empty_line.Reads as empty-line-reads
-use Rattle.vectors.proofs.feed.Reads as feed-reads
 
 abbrev Inv-loop : tie.InvT-loop
-Inv-loop text₀ unit₀ list₀ line₀ turns₀ text unit list line turns = (length text ≡ length text₀) × (length unit ≡ length unit₀) × (length list ≡ length list₀)
+Inv-loop text₀ unit₀ obus₀ plan₀ output₀ line₀ turns₀ text unit obus plan output line turns = (length text ≡ length text₀) × (length unit ≡ length unit₀) × (length obus ≡ length obus₀) × (length plan ≡ length plan₀) × (length output ≡ length output₀)
 
 abbrev μ-loop : tie.MeasureT-loop
-μ-loop text₀ unit₀ list₀ line₀ turns₀ text unit list line turns = turns
+μ-loop text₀ unit₀ obus₀ plan₀ output₀ line₀ turns₀ text unit obus plan output line turns = turns
 
 empty-line-requires : tie.Need-empty-line-requires Inv-loop μ-loop
 empty-line-requires c κs = search needs
@@ -38,6 +32,12 @@ same-length-2 c = search needs
 same-length-3 : tie.Need-same-length-3 Inv-loop μ-loop
 same-length-3 c = search needs
 
+same-length-4 : tie.Need-same-length-4 Inv-loop μ-loop
+same-length-4 c = search needs
+
+same-length-5 : tie.Need-same-length-5 Inv-loop μ-loop
+same-length-5 c = search needs
+
 returns : tie.Need-returns Inv-loop μ-loop
 returns c = search needs
 
@@ -59,14 +59,20 @@ loop-less c = search needs
 loop-again : tie.Need-loop-again Inv-loop μ-loop
 loop-again c = search needs
 
-same-length-4 : tie.Need-same-length-4 Inv-loop μ-loop
-same-length-4 c = search needs
-
-same-length-5 : tie.Need-same-length-5 Inv-loop μ-loop
-same-length-5 c = search needs
-
 same-length-6 : tie.Need-same-length-6 Inv-loop μ-loop
 same-length-6 c = search needs
+
+same-length-7 : tie.Need-same-length-7 Inv-loop μ-loop
+same-length-7 c = search needs
+
+same-length-8 : tie.Need-same-length-8 Inv-loop μ-loop
+same-length-8 c = search needs
+
+same-length-9 : tie.Need-same-length-9 Inv-loop μ-loop
+same-length-9 c = search needs
+
+same-length-10 : tie.Need-same-length-10 Inv-loop μ-loop
+same-length-10 c = search needs
 
 returns-2 : tie.Need-returns-2 Inv-loop μ-loop
 returns-2 c = search needs
@@ -84,6 +90,8 @@ replay-spec =
     same-length
     same-length-2
     same-length-3
+    same-length-4
+    same-length-5
     returns
     slice-reshare-prefix-feed
     slice-aggregate-feed
@@ -91,7 +99,9 @@ replay-spec =
     sub-turns
     loop-less
     loop-again
-    same-length-4
-    same-length-5
     same-length-6
+    same-length-7
+    same-length-8
+    same-length-9
+    same-length-10
     returns-2)
