@@ -13,5 +13,6 @@ pub mod UnitParts
 pub mod UnitPackets
 pub mod UnitObus
 pub mod OneUnit
+pub mod UnitReadBack
 pub mod UnitsTheorem
 pub mod UnitsInstance

@@ -100,7 +100,7 @@ module _ (s : Sending) (h : Accepted s) where
   abbrev unit : List ℕ
   unit = s .unit
 
-  runs : Runs (s .mtu - 1) (sizesOf unit) (position 0 0) (unitPlan (s .mtu) unit) (position (length (sizesOf unit)) 0)
+  pub runs : Runs (s .mtu - 1) (sizesOf unit) (position 0 0) (unitPlan (s .mtu) unit) (position (length (sizesOf unit)) 0)
   runs = plan-runs (s .mtu) (sizesOf unit) (h .0) (unit-positive unit)
 
   chained : Chained false (map (packetFor unit) (unitPlan (s .mtu) unit))

@@ -2,3 +2,4 @@ pub mod Arrivals
 pub mod Calls
 pub mod Delivery
 pub mod Units
+pub mod ReadBack
