@@ -5,8 +5,8 @@ use native.Mathlib.Nat.{add-zero}
 use native.Mathlib.Numerals.{add-one}
 use native.Mathlib.Omega.{arith}
 use mathlib.Core.List.{List, [], _∷_, _++_, append-nil, append-assoc}
-use lib.ListN.{length, getD, take, drop, set, length-append, length-drop, take-append-drop}
-use lib.Seq.{length-take-le, take-at, drop-append-add, drop-drop, set-split, paste, paste-suc, getD-drop}
+use lib.ListN.{length, take, drop, set, length-append, length-drop, take-append-drop}
+use lib.Seq.{length-take-le, take-at, drop-append-add, drop-drop, set-split}
 use Rattle.base.specs.Lists.{replaced, front}
 
 module _ {A : Type 0} where
@@ -35,19 +35,6 @@ module _ {A : Type 0} where
   -- one element stored
   pub set-one : (l : List A) (at : ℕ) (v : A) → at < length l → set l at v ≡ replaced l at (v ∷ [])
   set-one l at v h = set-split l at v h ∙ rw (add-one at) (sym (append-assoc (take at l) (v ∷ []) (drop (suc at) l)))
-
-  -- a copy, one element more
-  pub copy-next : (d s to : List A) (at start n i : ℕ) (z : A) → at + n ≤ length d → start + n ≤ length s → i < n → to ≡ paste d at (drop start s) i
-      → set to (at + i) (getD s (start + i) z) ≡ paste d at (drop start s) (i + 1)
-  copy-next d s to at start n i z a b h e =
-      rw (e, ← getD-drop start s i z, add-one) (paste-suc d at (drop start s) i z (omega arith) (omega (arith, length-drop start s)))
-
-  pub copy-end : (d s to : List A) (at start n i : ℕ) → start + n ≤ length s → i ≡ n → to ≡ paste d at (drop start s) i
-      → to ≡ replaced d at (take n (drop start s))
-  copy-end d s to at start n i b q e =
-      e
-      ∙ ap (λ (k : ℕ). paste d at (drop start s) k) q
-      ∙ ap (λ (k : ℕ). take at d ++ take n (drop start s) ++ drop (at + k) d) (sym (length-take-le n (drop start s) (omega (arith, length-drop start s))))
 
   pub front-length : (new l : List A) → length new ≤ length l → length (front new l) ≡ length l
   front-length new l h = simp (length-append, length-drop) (omega arith)

@@ -48,11 +48,7 @@ pub fn copy(to: &mut [u8], at: usize, from: &[u8], start: usize, size: usize)
     requires { ⌜ (at + size ≤ length (now to)) × (start + size ≤ length (now from)) ⌝ }
     ensures { λ _. ⌜ now (to .exit) ≡ replaced (now (to .entry)) at (take size (drop start (now (from .entry)))) ⌝ }
 {
-    let mut i: usize = 0;
-    while i < size {
-        to[at + i] = from[start + i];
-        i = i + 1;
-    }
+    base::copy_bytes(from, start, size, to, at);
 }
 
 // Copies a fragment, from byte `skip` of it on.
