@@ -16,3 +16,5 @@ pub mod OneUnit
 pub mod UnitReadBack
 pub mod UnitsTheorem
 pub mod UnitsInstance
+pub mod Turns
+pub mod RoundTrip

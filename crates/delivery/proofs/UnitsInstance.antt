@@ -21,7 +21,7 @@ use Rattle.receiver.specs.Joining.{fresh, isAhead, isInStep, joined, finished, 
 use Rattle.receiver.specs.Handing.{wires}
 use Rattle.receiver.specs.Call.{taken, outcome, stateOf}
 use Rattle.delivery.specs.Arrivals.{Near}
-use Rattle.delivery.specs.Calls.{Arrival, packetsIn, Call, calls, handedOut, verdicts}
+use Rattle.delivery.specs.Calls.{Arrival, packetsIn, Call, takes, refuses, calls, handedOut, verdicts}
 use Rattle.delivery.specs.Units.{Sending, Accepted, payloadsSent, UnitsDelivered}
 use Rattle.delivery.proofs.UnitsTheorem.{units-delivery}
 
@@ -77,14 +77,14 @@ out-of : handedOut (made packets) ≡ 0x32 ∷ 5 ∷ 0xa1 ∷ 0xa2 ∷ 0xa3 ∷ 
 unfolding made store arrival arrivals packets calls flatMap outcome taken payloadElements elementsOf counting untilEnd exactly elementAt fieldIn encodeIn isAhead isInStep joined finished left handed keptOpen next out wires wire wholeOf frontOf headed
 out-of = refl
 
-verdicts-of : verdicts (made packets) ≡ 0 ∷ 0 ∷ 0 ∷ 14 ∷ 0 ∷ 0 ∷ 14 ∷ 0 ∷ []
+verdicts-of : verdicts (made packets) ≡ takes ∷ takes ∷ takes ∷ refuses 14 ∷ takes ∷ takes ∷ refuses 14 ∷ takes ∷ []
 unfolding made store arrival arrivals packets calls flatMap outcome taken payloadElements elementsOf counting untilEnd exactly elementAt fieldIn encodeIn isAhead isInStep joined finished left handed keptOpen next out wires wire wholeOf frontOf headed
 verdicts-of = refl
 
 out-is : handedOut (made (payloadsSent sendings)) ≡ 0x32 ∷ 5 ∷ 0xa1 ∷ 0xa2 ∷ 0xa3 ∷ 0xa4 ∷ 0xa5 ∷ 0x36 ∷ 8 ∷ 1 ∷ 0xc1 ∷ []
 out-is = ap (λ (ps : List (List ℕ)). handedOut (made ps)) payloads-are ∙ out-of
 
-verdicts-are : verdicts (made (payloadsSent sendings)) ≡ 0 ∷ 0 ∷ 0 ∷ 14 ∷ 0 ∷ 0 ∷ 14 ∷ 0 ∷ []
+verdicts-are : verdicts (made (payloadsSent sendings)) ≡ takes ∷ takes ∷ takes ∷ refuses 14 ∷ takes ∷ takes ∷ refuses 14 ∷ takes ∷ []
 verdicts-are = ap (λ (ps : List (List ℕ)). verdicts (made ps)) payloads-are ∙ verdicts-of
 
 -- every premise is met

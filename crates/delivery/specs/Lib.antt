@@ -3,3 +3,4 @@ pub mod Calls
 pub mod Delivery
 pub mod Units
 pub mod ReadBack
+pub mod RoundTrip

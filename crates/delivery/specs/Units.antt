@@ -19,7 +19,7 @@ use Rattle.receiver.specs.Joining.{fresh}
 use Rattle.receiver.specs.Call.{stateOf}
 use Rattle.lawful.specs.Lawful.{Given}
 use Rattle.delivery.specs.Arrivals.{timely, firstTimely, Near, inOrder}
-use Rattle.delivery.specs.Calls.{Arrival, packetsIn, calls, handedOut, verdicts}
+use Rattle.delivery.specs.Calls.{Arrival, packetsIn, takes, takenOr14, calls, handedOut, verdicts}
 
 -- one payload call: a unit, its mtu, and what is lent
 pub record Sending : Type 0 where
@@ -80,7 +80,7 @@ pub record UnitsDelivered (sendings : List Sending) (first : ℕ) (store : List 
   -- R14 is given to exactly those arrivals that are not the first coming of a timely packet, and no other refusal arises
   pub refusals :
       verdicts (calls (payloadsSent sendings) first (stateOf fresh) store arrivals)
-      ≡ map (λ (b : Bool). cond b 0 14) (firstTimely [] (packetsIn arrivals))
+      ≡ map takenOr14 (firstTimely [] (packetsIn arrivals))
 
 abbrev pub UnitsDelivery : Type 0
 UnitsDelivery =
@@ -98,4 +98,4 @@ UnitsNoLoss =
     → packetsIn arrivals ≡ inOrder 0 (length (payloadsSent sendings))
     → UnitSpace sendings size mtu store arrivals
     → (handedOut (calls (payloadsSent sendings) first (stateOf fresh) store arrivals) ≡ flatMap (λ (s : Sending). flatMap (wireOf (s .unit)) (obusOf (s .unit))) sendings)
-    × All (λ v. v ≡ 0) (verdicts (calls (payloadsSent sendings) first (stateOf fresh) store arrivals))
+    × All (λ v. v ≡ takes) (verdicts (calls (payloadsSent sendings) first (stateOf fresh) store arrivals))
