@@ -125,7 +125,12 @@ fused-out : handedOut (calls ((0x50 ∷ 0x30 ∷ 0xa1 ∷ []) ∷ (0x90 ∷ 0xb2
 unfolding store arrival arrivals calls flatMap outcome taken payloadElements elementsOf counting untilEnd exactly elementAt fieldIn encodeIn isAhead isInStep joined finished left handed keptOpen next out wires wire wholeOf frontOf headed
 fused-out = refl
 
--- the works themselves
-own : flatMap (wireOf one) (obusOf one) ++ flatMap (wireOf other) (obusOf other) ≡ 0x32 ∷ 2 ∷ 0xa1 ∷ 0xa2 ∷ 0x32 ∷ 2 ∷ 0xb1 ∷ 0xb2 ∷ []
-unfolding one other flatMap keep fieldIn encodeIn headed frontOf scanFrom
-own = refl
+-- each work has one OBU, and what was handed out is neither
+works : map (wireOf one) (obusOf one) ++ map (wireOf other) (obusOf other) ≡ (0x32 ∷ 2 ∷ 0xa1 ∷ 0xa2 ∷ []) ∷ (0x32 ∷ 2 ∷ 0xb1 ∷ 0xb2 ∷ []) ∷ []
+unfolding one other keep fieldIn encodeIn headed frontOf scanFrom
+works = refl
+
+in-neither : All (λ (o : List ℕ). o ≡ 0x32 ∷ 2 ∷ 0xa1 ∷ 0xb2 ∷ [] → ⊥) (map (wireOf one) (obusOf one) ++ map (wireOf other) (obusOf other))
+in-neither =
+    subst (All (λ (o : List ℕ). o ≡ 0x32 ∷ 2 ∷ 0xa1 ∷ 0xb2 ∷ [] → ⊥)) (sym works)
+    ((λ e. omega (arith, ap (λ (l : List ℕ). getD l 3 0) e)), ((λ e. omega (arith, ap (λ (l : List ℕ). getD l 2 0) e)), tt))

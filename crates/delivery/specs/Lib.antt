@@ -4,3 +4,4 @@ pub mod Delivery
 pub mod Units
 pub mod ReadBack
 pub mod RoundTrip
+pub mod Trains
