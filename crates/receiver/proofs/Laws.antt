@@ -5,6 +5,7 @@
 --     taken-fits       what is taken has room
 --     outcome-held     a state that is possible is what it holds
 --     held-again       state and store, as a call leaves them, hold what the call leads to
+--     answer-within    what goes out is within the output
 --     store-length, output-length    store and output keep their lengths
 --     wires-append, wires-each       what goes out for OBUs one after the other
 use mathlib.Core.Path.{_≡_, refl, sym, ap, subst, _∙_}
@@ -25,8 +26,9 @@ use Rattle.element.specs.declared.Part.{Part}
 use Rattle.receiver.specs.Packet.{Packet, packetBy, packetOf}
 use Rattle.receiver.specs.Joining.{Held, ahead, next, out}
 use Rattle.receiver.specs.Handing.{before, wires}
-use Rattle.receiver.specs.Call.{fragmentLimit, Taken, fitted, opened, taken, heldIn, stateOf, outcome, storeBy, outputBy, storeAfter, outputAfter}
+use Rattle.receiver.specs.Call.{fragmentLimit, Taken, fitted, opened, taken, heldIn, stateOf, outcome, answered, receiveAnswer, storeBy, outputBy, storeAfter, outputAfter}
 use Rattle.receiver.specs.declared.State.{State}
+use Rattle.receiver.specs.declared.Received.{Received}
 use Rattle.receiver.proofs.Cursors.{payload-some, payload-small}
 use Rattle.receiver.proofs.Lists.{front-length}
 use Rattle.receiver.proofs.Takes.{fitted-all}
@@ -140,6 +142,15 @@ module _ (state : State) (number : ℕ) (payload store output : List ℕ) where
       go : (t : Answer Taken) → Fits (length store) (length output) t → length (outputBy t output) ≡ length output
       go (given t) f = front-length (t .bytes) output (f .2)
       go (refused n at) f = refl
+
+  pub answer-within : (r : Received) → given r ≡ receiveAnswer state number payload store output → r .bytes ≤ length output
+  answer-within r e = go (outcome state number payload store output) outcome-fits e
+    where
+      go : (a : Answer Taken) → Fits (length store) (length output) a → given r ≡ answered a → r .bytes ≤ length output
+      go (given t) f q =
+          let same : r ≡ record { state = stateOf (t .held); bytes = length (t .bytes) } = cc in
+          omega (arith, f .2, ap (λ (x : Received). x .bytes) same)
+      go (refused n at) f q = let z : _≡_ {A = ℕ} 0 1 = cc in absurd (omega arith)
 
 pub held-again : (h : Held) (store : List ℕ) → heldIn (stateOf h) (front (h .fragment) store) ≡ h
 held-again h store =

@@ -54,6 +54,10 @@ use Rattle.listing.specs.Input as input
 use Rattle.listing.specs.Paper as listing
 use Rattle.listing.specs.declared.InputRead.{InputRead}
 use Rattle.listing.specs.declared.InputRead.the-variants as whole
+use Rattle.unpacking.specs.Unpack as unpack
+use Rattle.unpacking.specs.Paper as unpacking
+use Rattle.unpacking.specs.declared.RecordStep.{RecordStep}
+use Rattle.unpacking.specs.declared.RecordStep.the-variants as step
 
 -- an answer of two cases, back from what was asked for or from the refusal and its offset
 abbrev back : {R A : Type 0} → (A → R) → (Refusal → ℕ → R) → Answer A → R
@@ -261,3 +265,19 @@ input-one = tells-apart listing.paperInput inputBack undone
     undone : (r : InputRead) → inputBack (listing.paperInput r) ≡ r
     undone whole.Bad = refl
     undone (whole.Good m) = refl
+
+stepBack : unpack.Step → RecordStep
+stepBack (unpack.takes r) = step.Taken r
+stepBack (unpack.passes n) = step.PassedOver (named n)
+stepBack (unpack.breaks n) = step.Broken (named n)
+stepBack unpack.quits = step.End
+
+pub step-one : (a b : RecordStep) → unpacking.paperStep a ≡ unpacking.paperStep b → a ≡ b
+unfolding stepBack
+step-one = tells-apart unpacking.paperStep stepBack undone
+  where
+    undone : (r : RecordStep) → stepBack (unpacking.paperStep r) ≡ r
+    undone (step.Taken r) = refl
+    undone (step.PassedOver r) = ap step.PassedOver (number-names r)
+    undone (step.Broken r) = ap step.Broken (number-names r)
+    undone step.End = refl

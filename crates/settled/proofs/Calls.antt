@@ -27,6 +27,8 @@ use Rattle.packing.proofs.read_pack_head as readPackHead
 use Rattle.packing.proofs.read_unit_length as readUnitLength
 use Rattle.listing.proofs.unit_length as unitLength
 use Rattle.listing.proofs.read_input as readInput
+use Rattle.unpacking.proofs.fresh_state as freshState
+use Rattle.unpacking.proofs.read_stated as readStated
 use Rattle.settled.specs.Settled.{Settled, SettledBy, SamePart}
 use Rattle.settled.proofs.Law.{meet, settles}
 use Rattle.settled.proofs.Answers.{size-one, list-one, plan-one, header-one, payloads-one, receipt-one, head-one, stated-one, found-one, pack-head-one, unit-length-one, input-one}
@@ -114,3 +116,10 @@ unit-length =
 pub read-input : Settled readInput.ended (λ M. readInput.clauses)
 read-input =
     settles readInput.ended _ _ _ (λ M 𝓤 H A mem run κs a. refl) (λ κs a x y p q. (input-one _ _ (meet p q), refl))
+
+pub fresh-state : Settled freshState.ended (λ M. freshState.clauses)
+fresh-state = settles freshState.ended _ _ _ (λ M 𝓤 H A mem run κs a. refl) (λ κs a x y p q. (meet p q, refl))
+
+pub read-stated : Settled readStated.ended (λ M. readStated.clauses)
+read-stated =
+    settles readStated.ended _ _ _ (λ M 𝓤 H A mem run κs a. refl) (λ κs a x y p q. (stated-one _ _ (meet (p .0) (q .0)), refl))

@@ -1,0 +1,2 @@
+-- What the proofs of the functions, and of callers, cite.
+pub mod Steps
