@@ -18,7 +18,7 @@ use Rattle.receiver.specs.Joining.{Held, fresh, isAhead, isInStep, ahead, joina
 use Rattle.receiver.specs.Call.{fragmentLimit, Taken, stateOf, answered, storeBy, outputBy}
 use Rattle.receiver.specs.declared.State.{State}
 use Rattle.receiver.proofs.Lists.{front-length}
-use Rattle.receiver.proofs.Laws.{held-again}
+use Rattle.receiver.proofs.Laws.{Holding, holding-fresh, held-again}
 use Rattle.receiver.proofs.Sizes.{output-enough}
 use Rattle.lawful.specs.Train.{NonEmpty}
 use Rattle.lawful.specs.Payload.{CarryAll}
@@ -30,7 +30,7 @@ use Rattle.delivery.proofs.Open.{noted, Small}
 use Rattle.delivery.proofs.Numbers.{after, not-ahead, is-ahead, is-in-step}
 use Rattle.delivery.proofs.Follow.{noPacket, joins, follow, cond-none}
 use Rattle.delivery.proofs.Timely.{advances}
-use Rattle.delivery.proofs.OneCall.{carried-packet, wireBytes, wires-given, Holding, call-late, call-taken}
+use Rattle.delivery.proofs.OneCall.{carried-packet, wireBytes, wires-given, call-late, call-taken}
 
 -- ---- the payload at a place of the run is read as the packet there
 
@@ -145,7 +145,7 @@ module _ (payloads : List (List ℕ)) (first : ℕ) (run : List Packet) (size mt
       let f′ = rw (t, e) at f in
       let k′ = rw (t, e) at k in
       rw (t, e)
-      (took fresh store a rest (record { stands = refl; within = omega arith; limited = omega arith }) (near .0) []
+      (took fresh store a rest (holding-fresh store) (near .0) []
       (follow handed run (suc (a .packet)) (keptOpen [] q) r) (advances (suc (a .packet)) r) refl refl (omega arith) sp (room .0)
       (all-left WellFormed (handed [] q) (follow handed run (suc (a .packet)) (keptOpen [] q) r) f′) (k′ .0)
       (λ s′ sp′.

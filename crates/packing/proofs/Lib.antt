@@ -3,4 +3,4 @@ pub mod Rows
 pub mod Reading
 pub mod Recording
 pub mod Units
-pub mod Running
+pub mod Runs

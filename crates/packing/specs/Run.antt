@@ -1,42 +1,40 @@
--- `pack` as the program runs it: it reads five bytes, and then, turn after turn, four bytes and as many as these state; it gives each
--- step what came, and writes what the step put first into the store (G2 to G4, G6, G7). What a step answers and leaves is what its
--- contract says. The program counts its turns down, and so does this.
-use Prim.Native.Nat.{ℕ, zero, suc}
+-- A run of the steps over the bytes of an input, as the program makes it (G2 to G4, G6, G7): what it writes.
+use Prim.Native.Nat.{ℕ, zero, suc, _+_, _-_}
 use mathlib.Core.List.{List, [], _∷_, _++_}
 use lib.ListN.{take, drop}
 use Rattle.payloader.specs.Payload.{payloadsOf}
 use Rattle.train.specs.Train.{trainVersion}
 use Rattle.packing.specs.Pack.{listRecords, outputBytes, headWidth, unitWidth, Head, found, none, headIn, Length, over, stated, cut, lengthIn, recordsOf, answerIn, Unit′, cutShort, refusedBy, packed, unitIn, storeAfter}
 
--- what is written after a unit, with the store as the step left it: its first bytes, as many as the step answers, and then what
--- the turns after it write, from the next number and from this store on
-abbrev pub wroteUnit : Unit′ → List ℕ → (ℕ → List ℕ → List ℕ) → List ℕ
-wroteUnit cutShort store rest = []
-wroteUnit (refusedBy k) store rest = []
-wroteUnit (packed r) store rest = take (r .bytes) store ++ rest (r .next) store
+-- after a step, which left the store so: the records that stand first are written, and the rest of the run has the next number
+abbrev pub goOn : List ℕ → Unit′ → (ℕ → List ℕ → List ℕ) → List ℕ
+goOn store cutShort rest = []
+goOn store (refusedBy k) rest = []
+goOn store (packed r) rest = take (r .bytes) store ++ rest (r .next) store
 
--- the step on a unit of s bytes, of which these came
-abbrev pub wroteBytes : ℕ → ℕ → ℕ → List ℕ → List ℕ → (ℕ → List ℕ → List ℕ) → List ℕ
-wroteBytes mtu n s came store =
-    wroteUnit (unitIn (answerIn listRecords listRecords outputBytes) mtu n s came)
-    (storeAfter (unitIn (answerIn listRecords listRecords outputBytes) mtu n s came) (recordsOf n (payloadsOf mtu (take s came))) store)
+-- the step on a unit of s bytes, of which these were read
+abbrev pub stepIn : ℕ → ℕ → ℕ → List ℕ → Unit′
+stepIn = unitIn (answerIn listRecords listRecords outputBytes)
 
--- one turn, by the length that it finds; `l` is what stands after the length
-abbrev pub wroteBy : ℕ → ℕ → Length → List ℕ → List ℕ → (ℕ → ℕ → List ℕ → List ℕ) → List ℕ
-wroteBy mtu n over l store rest = []
-wroteBy mtu n cut l store rest = []
-wroteBy mtu n (stated s) l store rest = wroteBytes mtu n s (take s l) store (rest s)
+-- by the length of the unit at the front, of which so many bytes are read; the rest begins after them
+abbrev pub runBy : ℕ → ℕ → List ℕ → List ℕ → Length → (ℕ → ℕ → List ℕ → List ℕ) → List ℕ
+runBy mtu n store l over rest = []
+runBy mtu n store l cut rest = []
+runBy mtu n store l (stated s) rest =
+    let unit = take s (drop unitWidth l) in
+    goOn (storeAfter (stepIn mtu n s unit) (recordsOf n (payloadsOf mtu (take s unit))) store) (stepIn mtu n s unit) (rest (unitWidth + s))
 
--- what so many turns write at the most, from the number n on, with this store, of what is still to be read
-unfoldable pub wroteIn : ℕ → ℕ → ℕ → List ℕ → List ℕ → List ℕ
-wroteIn zero mtu n store l = []
-wroteIn (suc turns) mtu n store l =
-    wroteBy mtu n (lengthIn (take unitWidth l)) (drop unitWidth l) store (λ s next store′. wroteIn turns mtu next store′ (drop s (drop unitWidth l)))
+-- the units of some bytes, the first `skip` of which belong to the unit before, from the number n on
+unfoldable pub runFrom : ℕ → ℕ → List ℕ → List ℕ → ℕ → List ℕ
+runFrom mtu n store [] skip = []
+runFrom mtu n store (b ∷ l) (suc skip) = runFrom mtu n store l skip
+runFrom mtu n store (b ∷ l) zero =
+    runBy mtu n store (b ∷ l) (lengthIn (take unitWidth (b ∷ l))) (λ span next t. runFrom mtu next t l (span - 1))
 
-abbrev pub wroteAfter : ℕ → Head → List ℕ → List ℕ → List ℕ
-wroteAfter turns (found h) store l = trainVersion ∷ wroteIn turns (h .mtu) (h .first) store l
-wroteAfter turns none store l = []
+-- the whole input, with the store as it is at the start
+abbrev pub runHeaded : List ℕ → List ℕ → Head → List ℕ
+runHeaded store l (found h) = trainVersion ∷ runFrom (h .mtu) (h .first) store l 0
+runHeaded store l none = []
 
--- what a run writes for an input
-abbrev pub packRun : ℕ → List ℕ → List ℕ → List ℕ
-packRun turns store input = wroteAfter turns (headIn (take headWidth input)) store (drop headWidth input)
+abbrev pub runOf : List ℕ → List ℕ → List ℕ
+runOf store input = runHeaded store (drop headWidth input) (headIn (take headWidth input))
