@@ -20,14 +20,12 @@ use Rattle.receiver.specs.declared.State.{State}
 use Rattle.receiver.proofs.Lists.{front-length}
 use Rattle.receiver.proofs.Laws.{Holding, holding-fresh, held-again}
 use Rattle.receiver.proofs.Sizes.{output-enough}
-use Rattle.lawful.specs.Train as train
 use Rattle.lawful.specs.Train.{NonEmpty}
 use Rattle.lawful.specs.Payload.{CarryAll}
 use Rattle.lawful.specs.Lawful.{WellFormed}
 use Rattle.lawful.proofs.Lists.{all-left, all-right}
 use Rattle.delivery.specs.Arrivals.{number, NearTo, Near}
 use Rattle.delivery.specs.Calls.{Arrival, packetsIn, Call, stateAfter, bytesBy, Verdict, takes, refuses, takenOr14, calls, handedOut, verdicts}
-use Rattle.delivery.proofs.Walk.{apart}
 use Rattle.delivery.proofs.Open.{noted, Small}
 use Rattle.delivery.proofs.Numbers.{after, not-ahead, is-ahead, is-in-step}
 use Rattle.delivery.proofs.Follow.{noPacket, joins, follow, cond-none}
@@ -40,8 +38,8 @@ pub record Place (mtu : ℕ) (payload : List ℕ) (p : Packet) : Type 0 where
   pub read : packetOf payload ≡ given p
   pub short : length payload ≤ mtu
 
-pub place-at : (mtu : ℕ) (payloads : List (List ℕ)) (run : List train.Packet) → CarryAll payloads run → All (λ p. All NonEmpty (p .elements)) run → All (λ b. length b ≤ mtu) payloads
-    → (a : ℕ) → a < length payloads → Place mtu (getD payloads a []) (getD (map apart run) a noPacket)
+pub place-at : (mtu : ℕ) (payloads : List (List ℕ)) (run : List Packet) → CarryAll payloads run → All (λ p. All NonEmpty (p .elements)) run → All (λ b. length b ≤ mtu) payloads
+    → (a : ℕ) → a < length payloads → Place mtu (getD payloads a []) (getD run a noPacket)
 place-at mtu [] run c f s a l = absurd (omega arith)
 place-at mtu (b ∷ payloads) [] c f s a l = absurd c
 place-at mtu (b ∷ payloads) (p ∷ run) c f s zero l = record { read = carried-packet b p (c .0) (f .0); short = s .0 }

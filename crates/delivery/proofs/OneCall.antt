@@ -13,18 +13,16 @@ use Rattle.element.proofs.Laws.{payload-fits}
 use Rattle.receiver.specs.Packet.{Packet, packetBy, packetOf}
 use Rattle.receiver.specs.Joining.{Held, ahead, joinable, handed, keptOpen, next, out}
 use Rattle.receiver.specs.Handing.{wires}
-use Rattle.receiver.specs.Call.{fragmentLimit, taken, heldIn, stateOf, outcome}
+use Rattle.receiver.specs.Call.{fragmentLimit, stateOf, outcome}
 use Rattle.receiver.proofs.Laws.{wires-each, taken-all, taken-behind, Holding, outcome-holding}
-use Rattle.lawful.specs.Train as train
 use Rattle.lawful.specs.Train.{NonEmpty}
 use Rattle.lawful.specs.Payload.{Carry}
 use Rattle.lawful.specs.Lawful.{Given, WellFormed}
 use Rattle.lawful.proofs.Reading.{carried-read}
-use Rattle.delivery.proofs.Walk.{apart}
 
 -- ---- the payload is taken apart as its packet
 
-pub carried-packet : (payload : List ℕ) (p : train.Packet) → Carry payload p → All NonEmpty (p .elements) → packetOf payload ≡ given (apart p)
+pub carried-packet : (payload : List ℕ) (p : Packet) → Carry payload p → All NonEmpty (p .elements) → packetOf payload ≡ given p
 carried-packet [] p c f = absurd c
 carried-packet (h ∷ bytes) p c f =
     let r = carried-read (h ∷ bytes) p c f in
