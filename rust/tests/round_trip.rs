@@ -13,7 +13,7 @@ fn expected(unit: &[u8], mtu: usize) -> Vec<(Vec<u8>, std::ops::RangeInclusive<u
     let packets = 0..plan.packets.len();
     let carriers = |i| packets.clone().filter(move |&k| carries(i, k));
     (0..plan.obus.len())
-        .map(|i| (wire(unit, &plan.obus[i]), carriers(i).next().unwrap()..=carriers(i).last().unwrap()))
+        .map(|i| (wire(unit, &plan.obus[i]), carriers(i).next().unwrap()..=carriers(i).next_back().unwrap()))
         .collect()
 }
 
