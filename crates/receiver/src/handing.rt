@@ -70,8 +70,8 @@ fn copy_across(to: &mut [u8], at: usize, store: &[u8], payload: &[u8], f: Fragme
     }
 }
 
-// The OBU of exactly a fragment's bytes, judged by the first of them.
-fn judge(store: &[u8], payload: &[u8], f: Fragment) -> ObuRead
+// The OBU of exactly a fragment's bytes, judged by the first of them, which are put together in an array.
+fn judge_across(store: &[u8], payload: &[u8], f: Fragment) -> ObuRead
     requires { ⌜ (f .kept ≤ length (now store)) × (f .start + f .size ≤ length (now payload)) × (1 ≤ f .size) ⌝ }
     ensures { λ r. ⌜ paperWhole r ≡ wholeOf (fragmentOf (now (store .entry)) (now (payload .entry)) f) ⌝ }
 {
@@ -85,6 +85,19 @@ fn judge(store: &[u8], payload: &[u8], f: Fragment) -> ObuRead
     copy(&mut head, a, payload, start, b);
     let n = a + b;
     obu::whole_obu(&head[..n], kept + size)
+}
+
+// The OBU of exactly a fragment's bytes: those of the payload alone are judged where they stand.
+fn judge(store: &[u8], payload: &[u8], f: Fragment) -> ObuRead
+    requires { ⌜ (f .kept ≤ length (now store)) × (f .start + f .size ≤ length (now payload)) × (1 ≤ f .size) ⌝ }
+    ensures { λ r. ⌜ paperWhole r ≡ wholeOf (fragmentOf (now (store .entry)) (now (payload .entry)) f) ⌝ }
+{
+    if f.kept == 0 {
+        let start = f.start;
+        let end = start + f.size;
+        return obu::whole_obu(&payload[start..end], f.size);
+    }
+    judge_across(store, payload, f)
 }
 
 // Writes an OBU's header byte with bit 1 set and its extension byte, and returns the cursor after them.
