@@ -168,8 +168,8 @@ fn finish_obu(
     }
 }
 
-// Elements `from` up to `to`, each finishing an OBU, the first with `joined` bytes of the store in front: counted, and written where told to.
-pub fn hand_out(
+// Elements `from` up to `to`, one after the other.
+fn hand_each(
     payload: &[u8],
     cursor: usize,
     from: usize,
@@ -218,4 +218,28 @@ pub fn hand_out(
         }
     }
     HandedOut::Bytes(bytes)
+}
+
+// Elements `from` up to `to`, each finishing an OBU, the first with `joined` bytes of the store in front: counted, and written where told to.
+pub fn hand_out(
+    payload: &[u8],
+    cursor: usize,
+    from: usize,
+    to: usize,
+    store: &[u8],
+    joined: usize,
+    out: &mut [u8],
+    write: bool,
+) -> HandedOut
+    requires { ⌜ (payloadElements (now payload) ≡ given (partsOf (now payload))) × (cursor ≡ cursorOf (partsOf (now payload)) from)
+        × (from ≤ length (partsOf (now payload))) × (to ≤ length (partsOf (now payload)))
+        × (joined ≤ length (now store)) × (joined ≤ fragmentLimit) ⌝ }
+    requires { ⌜ (write ≡ true → RoomAt (length (now out)) 0 (wires (between (now store) joined (now payload) from to))) ⌝ }
+    ensures { λ r. ⌜ (paperHanded r ≡ counted (wires (between (now (store .entry)) joined (now (payload .entry)) from to)))
+        × (now (out .exit) ≡ cond write (putFirst (now (out .entry)) (wires (between (now (store .entry)) joined (now (payload .entry)) from to))) (now (out .entry))) ⌝ }
+{
+    if to <= from {
+        return HandedOut::Bytes(0);
+    }
+    hand_each(payload, cursor, from, to, store, joined, out, write)
 }
