@@ -76,8 +76,8 @@ pub fn put_five(list: &mut [u32], at: usize, a: u32, b: u32, c: u32, d: u32, e: 
     list[at + 4] = e;
 }
 
-// The bytes of a block.
-const BLOCK: usize = 4096;
+// The bytes of a block: as many as the largest payload has, and a few more.
+const BLOCK: usize = 65536;
 
 // One byte after the other.
 fn copy_each(from: &[u8], start: usize, n: usize, to: &mut [u8], at: usize)
@@ -93,7 +93,7 @@ fn copy_each(from: &[u8], start: usize, n: usize, to: &mut [u8], at: usize)
 
 // A block read whole and then written: the compiler sees that the two steps do not meet, and makes one move of memory of them.
 fn copy_block(from: &[u8], start: usize, n: usize, to: &mut [u8], at: usize)
-    requires { ⌜ (n ≤ 4096) × (start + n ≤ length (now from)) × (at + n ≤ length (now to)) ⌝ }
+    requires { ⌜ (n ≤ 65536) × (start + n ≤ length (now from)) × (at + n ≤ length (now to)) ⌝ }
     ensures { λ _. ⌜ now (to .exit) ≡ sets (now (to .entry)) at (take n (drop start (now (from .entry)))) ⌝ }
 {
     let mut held = [0u8; BLOCK];
