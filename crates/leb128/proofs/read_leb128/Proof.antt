@@ -27,7 +27,7 @@ returns c =
     let l = c .before .before .before .before .before .args .bytes .now in
     let v : getD l 0 0 ≡ getD l 0 0 % 128 = omega (arith, c .before .if2 .taken) in
     capped-small l _ 1
-    (ap (λ (n : ℕ). sized n 1) v ∙ sym (field-last longestField l (λ z. omega arith) (λ z. omega (arith, c .before .before .before .if1 .taken)) (c .before .if2 .taken)))
+    (ap (λ (n : ℕ). sized n 1) v ∙ sym (field-last longestField l (λ z. omega arith) (λ z. omega (arith, c .before .before .before .if1 .taken)) (omega (arith, c .before .if2 .taken))))
     (omega (arith, c .before .if2 .taken))
 
 read-tail-requires : tie.Need-read-tail-requires
@@ -43,10 +43,10 @@ enum-known-refusal : tie.Need-enum-known-refusal
 enum-known-refusal c = search needs
 
 returns-2 : tie.Need-returns-2
-returns-2 c = capped-small _ _ _ (told (c .before)) (c .if3 .taken)
+returns-2 c = capped-small _ _ _ (told (c .before)) (omega (arith, c .if3 .taken))
 
 returns-3 : tie.Need-returns-3
-returns-3 c = capped-large _ _ _ (told (c .before)) (c .if3 .left)
+returns-3 c = capped-large _ _ _ (told (c .before)) (omega (arith, c .if3 .left))
 
 returns-4 : tie.Need-returns-4
 returns-4 c = ap capped (sym (ap paperTail (c .before .refusal .given .1)) ∙ c .before .before .before .read-tail .ensures)
