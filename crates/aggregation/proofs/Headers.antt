@@ -6,25 +6,14 @@ use mathlib.Core.List.{List, [], _++_, append-nil}
 use lib.ListN.{length, getD, length-append, List·getD-append}
 use borrow.Author.Tests.{lt-leb, le-ltb, ne-eqb}
 use Rattle.base.specs.Answers.{given}
-use Rattle.base.proofs.Refusals.{number-one}
 use Rattle.obu.specs.Unit.{flat}
 use Rattle.obu.specs.declared.Obu.{Obu}
 use Rattle.packetizer.specs.Plan.{flatPlan}
 use Rattle.packetizer.specs.declared.PacketMetadata.{PacketMetadata}
 use Rattle.aggregation.specs.Header.{noObu, noPacket, lastObu, nOf, byteOf, headerOf}
 use Rattle.aggregation.specs.Flat.{recordsIn, obusIn, packetsIn}
-use Rattle.aggregation.specs.Paper.{paper}
-use Rattle.aggregation.specs.declared.HeaderAnswer.{HeaderAnswer}
-use Rattle.aggregation.specs.declared.HeaderAnswer.the-variants.{Header, Refused}
 use Rattle.aggregation.proofs.Flat.{obus-back, packets-back}
 use Rattle.aggregation.proofs.Laws.{byte-z, byte-n}
-
--- the paper tells the answers apart
-pub paper-one : (a b : HeaderAnswer) → paper a ≡ paper b → a ≡ b
-paper-one (Header x) (Header y) e = cc
-paper-one (Header x) (Refused s) e = cc
-paper-one (Refused r) (Header y) e = cc
-paper-one (Refused r) (Refused s) e = ap Refused (number-one r s (cc))
 
 -- the same records give the same answer in both forms
 pub alike : (os : List Obu) (ps : List PacketMetadata) (k : ℕ) → headerOf (obusIn (flat os)) (packetsIn (flatPlan ps)) k ≡ headerOf os ps k
@@ -33,10 +22,6 @@ alike os ps k =
     ap₂ (λ (o : List Obu) (p : List PacketMetadata). headerOf o p k)
     (ap obusIn (sym (append-nil (flat os))) ∙ obus-back os [] ∙ append-nil os)
     (ap packetsIn (sym (append-nil (flatPlan ps))) ∙ packets-back ps [] ∙ append-nil ps)
-
-pub same-answer : (a b : HeaderAnswer) (os : List Obu) (ps : List PacketMetadata) (k : ℕ)
-    → paper a ≡ headerOf (obusIn (flat os)) (packetsIn (flatPlan ps)) k → paper b ≡ headerOf os ps k → a ≡ b
-same-answer a b os ps k e f = paper-one a b (e ∙ alike os ps k ∙ sym f)
 
 -- record k is there, with elements, and its OBUs are
 module _

@@ -1,4 +1,4 @@
--- The numbers tell the refusals apart. Assumes nothing.
+-- The numbers tell the refusals apart, and the law by which every answer's cases are told apart. Assumes nothing.
 use mathlib.Core.Path.{_≡_, refl, sym, ap, _∙_}
 use Prim.Native.Nat.{ℕ, _-_}
 use mathlib.Core.List.{List, [], _∷_}
@@ -11,10 +11,10 @@ use Rattle.base.specs.declared.Refusal.the-variants.{MtuOverLimit, UnitO
 all : List Refusal
 all = MtuOverLimit ∷ UnitOverLimit ∷ ExtensionMissing ∷ SizeMissing ∷ SizeUnfinished ∷ SizeTooLarge ∷ PayloadPastUnit ∷ ObuListFull ∷ PlanListFull ∷ OutputFull ∷ NoSuchPacket ∷ StateImpossible ∷ PayloadLength ∷ NotAhead ∷ NewWithContinuation ∷ ElementLengthBad ∷ ElementBad ∷ ObuBroken ∷ FragmentTooLong ∷ OutputTooShort ∷ TrainVersion ∷ TrainCut ∷ RecordTooShort ∷ []
 
-named : ℕ → Refusal
+pub named : ℕ → Refusal
 named n = getD all (n - 1) MtuOverLimit
 
-number-names : (r : Refusal) → named (numberOf r) ≡ r
+pub number-names : (r : Refusal) → named (numberOf r) ≡ r
 unfolding all named
 number-names MtuOverLimit = refl
 number-names UnitOverLimit = refl
@@ -40,5 +40,9 @@ number-names TrainVersion = refl
 number-names TrainCut = refl
 number-names RecordTooShort = refl
 
+-- what can be undone tells apart what it is made from
+pub tells-apart : {R P : Type 0} (paper : R → P) (back : P → R) → ((r : R) → back (paper r) ≡ r) → (a b : R) → paper a ≡ paper b → a ≡ b
+tells-apart paper back undone a b e = sym (undone a) ∙ ap back e ∙ undone b
+
 pub number-one : (a b : Refusal) → numberOf a ≡ numberOf b → a ≡ b
-number-one a b e = sym (number-names a) ∙ ap named e ∙ number-names b
+number-one = tells-apart numberOf named number-names

@@ -18,21 +18,19 @@ use Rattle.receiver.specs.Joining.{Held, fresh, isAhead, isInStep, ahead, joina
 use Rattle.receiver.specs.Call.{fragmentLimit, Taken, stateOf, answered, storeBy, outputBy}
 use Rattle.receiver.specs.declared.State.{State}
 use Rattle.receiver.proofs.Lists.{front-length}
-use Rattle.receiver.proofs.Laws.{held-again}
+use Rattle.receiver.proofs.Laws.{Holding, holding-fresh, held-again}
 use Rattle.receiver.proofs.Sizes.{output-enough}
-use Rattle.lawful.specs.Train as train
 use Rattle.lawful.specs.Train.{NonEmpty}
 use Rattle.lawful.specs.Payload.{CarryAll}
 use Rattle.lawful.specs.Lawful.{WellFormed}
 use Rattle.lawful.proofs.Lists.{all-left, all-right}
 use Rattle.delivery.specs.Arrivals.{number, NearTo, Near}
-use Rattle.delivery.specs.Calls.{Arrival, packetsIn, Call, stateAfter, bytesBy, calls, handedOut, verdicts}
-use Rattle.delivery.proofs.Walk.{apart}
+use Rattle.delivery.specs.Calls.{Arrival, packetsIn, Call, stateAfter, bytesBy, Verdict, takes, refuses, takenOr14, calls, handedOut, verdicts}
 use Rattle.delivery.proofs.Open.{noted, Small}
 use Rattle.delivery.proofs.Numbers.{after, not-ahead, is-ahead, is-in-step}
 use Rattle.delivery.proofs.Follow.{noPacket, joins, follow, cond-none}
 use Rattle.delivery.proofs.Timely.{advances}
-use Rattle.delivery.proofs.OneCall.{carried-packet, wireBytes, wires-given, Holding, call-late, call-taken}
+use Rattle.delivery.proofs.OneCall.{carried-packet, wireBytes, wires-given, call-late, call-taken}
 
 -- ---- the payload at a place of the run is read as the packet there
 
@@ -40,8 +38,8 @@ pub record Place (mtu : ℕ) (payload : List ℕ) (p : Packet) : Type 0 where
   pub read : packetOf payload ≡ given p
   pub short : length payload ≤ mtu
 
-pub place-at : (mtu : ℕ) (payloads : List (List ℕ)) (run : List train.Packet) → CarryAll payloads run → All (λ p. All NonEmpty (p .elements)) run → All (λ b. length b ≤ mtu) payloads
-    → (a : ℕ) → a < length payloads → Place mtu (getD payloads a []) (getD (map apart run) a noPacket)
+pub place-at : (mtu : ℕ) (payloads : List (List ℕ)) (run : List Packet) → CarryAll payloads run → All (λ p. All NonEmpty (p .elements)) run → All (λ b. length b ≤ mtu) payloads
+    → (a : ℕ) → a < length payloads → Place mtu (getD payloads a []) (getD run a noPacket)
 place-at mtu [] run c f s a l = absurd (omega arith)
 place-at mtu (b ∷ payloads) [] c f s a l = absurd c
 place-at mtu (b ∷ payloads) (p ∷ run) c f s zero l = record { read = carried-packet b p (c .0) (f .0); short = s .0 }
@@ -51,7 +49,7 @@ place-at mtu (b ∷ payloads) (p ∷ run) c f s (suc a) l = place-at mtu payload
 
 pub record Agrees (cs : List Call) (os : List (List ℕ)) (bs : List Bool) : Type 0 where
   pub out : handedOut cs ≡ flatMap wireBytes os
-  pub says : verdicts cs ≡ map (λ (b : Bool). cond b 0 14) bs
+  pub says : verdicts cs ≡ map takenOr14 bs
 
 module _ (payloads : List (List ℕ)) (first : ℕ) (run : List Packet) (size mtu : ℕ) (limit : size ≤ fragmentLimit) (places : (a : ℕ) → a < length payloads → Place mtu (getD payloads a []) (getD run a noPacket)) where
   -- a call by what comes of it
@@ -76,7 +74,7 @@ module _ (payloads : List (List ℕ)) (first : ℕ) (run : List Packet) (size mt
     late os bs e g =
         let x : calls payloads first (stateOf h) store (a ∷ rest) ≡ by-outcome (stateOf h) store a rest (refused 14 0) =
         ap (by-outcome (stateOf h) store a rest) (call-late h n payload store (a .output) s p (places (a .packet) l .read) e) in
-        record { out = ap handedOut x ∙ g .out; says = ap verdicts x ∙ ap (λ (v : List ℕ). 14 ∷ v) (g .says) }
+        record { out = ap handedOut x ∙ g .out; says = ap verdicts x ∙ ap (λ (v : List Verdict). refuses 14 ∷ v) (g .says) }
 
     -- it may join o
     module _ (o : List ℕ) where
@@ -99,7 +97,7 @@ module _ (payloads : List (List ℕ)) (first : ℕ) (run : List Packet) (size mt
           let r = g (record { stands = held-again held store; within = rw m (omega arith); limited = omega arith }) (rw m sp) in
           record {
             out = ap handedOut x ∙ ap₂ _++_ (take-append-seam b (drop (length b) (a .output))) (r .out) ∙ sym (flatMap-append wireBytes (handed o p) os);
-            says = ap verdicts x ∙ ap (λ (v : List ℕ). 0 ∷ v) (r .says);
+            says = ap verdicts x ∙ ap (λ (v : List Verdict). takes ∷ v) (r .says);
           }
 
   -- the calls after packet m, with the fragment o open
@@ -147,7 +145,7 @@ module _ (payloads : List (List ℕ)) (first : ℕ) (run : List Packet) (size mt
       let f′ = rw (t, e) at f in
       let k′ = rw (t, e) at k in
       rw (t, e)
-      (took fresh store a rest (record { stands = refl; within = omega arith; limited = omega arith }) (near .0) []
+      (took fresh store a rest (holding-fresh store) (near .0) []
       (follow handed run (suc (a .packet)) (keptOpen [] q) r) (advances (suc (a .packet)) r) refl refl (omega arith) sp (room .0)
       (all-left WellFormed (handed [] q) (follow handed run (suc (a .packet)) (keptOpen [] q) r) f′) (k′ .0)
       (λ s′ sp′.

@@ -13,18 +13,16 @@ use Rattle.element.proofs.Laws.{payload-fits}
 use Rattle.receiver.specs.Packet.{Packet, packetBy, packetOf}
 use Rattle.receiver.specs.Joining.{Held, ahead, joinable, handed, keptOpen, next, out}
 use Rattle.receiver.specs.Handing.{wires}
-use Rattle.receiver.specs.Call.{fragmentLimit, taken, heldIn, stateOf, outcome}
-use Rattle.receiver.proofs.Laws.{wires-each, taken-all, taken-behind, outcome-held}
-use Rattle.lawful.specs.Train as train
+use Rattle.receiver.specs.Call.{fragmentLimit, stateOf, outcome}
+use Rattle.receiver.proofs.Laws.{wires-each, taken-all, taken-behind, Holding, outcome-holding}
 use Rattle.lawful.specs.Train.{NonEmpty}
 use Rattle.lawful.specs.Payload.{Carry}
 use Rattle.lawful.specs.Lawful.{Given, WellFormed}
 use Rattle.lawful.proofs.Reading.{carried-read}
-use Rattle.delivery.proofs.Walk.{apart}
 
 -- ---- the payload is taken apart as its packet
 
-pub carried-packet : (payload : List ℕ) (p : train.Packet) → Carry payload p → All NonEmpty (p .elements) → packetOf payload ≡ given (apart p)
+pub carried-packet : (payload : List ℕ) (p : Packet) → Carry payload p → All NonEmpty (p .elements) → packetOf payload ≡ given p
 carried-packet [] p c f = absurd c
 carried-packet (h ∷ bytes) p c f =
     let r = carried-read (h ∷ bytes) p c f in
@@ -52,20 +50,9 @@ wires-given os h = wires-each wireBytes os (all-map wire-given os h)
 
 -- ---- the call
 
--- state and store hold h, and the open fragment has the size that it may have
-pub record Holding (h : Held) (store : List ℕ) : Type 0 where
-  pub stands : heldIn (stateOf h) store ≡ h
-  pub within : length (h .fragment) ≤ length store
-  pub limited : length (h .fragment) ≤ fragmentLimit
-
 module _ (h : Held) (number : ℕ) (payload store output : List ℕ) (s : Holding h store) (p : Packet) (read : packetOf payload ≡ given p) where
-  held : outcome (stateOf h) number payload store output ≡ taken (length store) (length output) h number payload
-  held =
-      outcome-held (stateOf h) number payload store output (s .within) (s .limited)
-      ∙ ap (λ (x : Held). taken (length store) (length output) x number payload) (s .stands)
-
   pub call-late : ahead h number ≡ false → outcome (stateOf h) number payload store output ≡ refused 14 0
-  call-late e = held ∙ taken-behind (length store) (length output) h number payload p read e
+  call-late e = outcome-holding h number payload store output s ∙ taken-behind (length store) (length output) h number payload p read e
 
   -- the first element may join o
   pub call-taken : (o bytes : List ℕ) → ahead h number ≡ true → joinable h number ≡ o → wires (handed o p) ≡ given bytes
@@ -75,6 +62,6 @@ module _ (h : Held) (number : ℕ) (payload store output : List ℕ) (s : Holdin
   call-taken o bytes a j w k l m =
       let n : next h number p ≡ record { begun = true; last = number; fragment = keptOpen o p } = rw (a, j) in
       let f : (next h number p) .fragment ≡ keptOpen o p = ap (λ (x : Held). x .fragment) n in
-      held
+      outcome-holding h number payload store output s
       ∙ taken-all (length store) (length output) h number payload p read a bytes (rw (a, j) w) (rw f k) (rw f l) m
       ∙ ap (λ (x : Held). given (record { held = x; bytes = bytes })) n

@@ -2,7 +2,7 @@
 use mathlib.Core.Path.{_≡_, refl}
 use Prim.Native.Nat.{ℕ, suc, _≤_}
 use native.Mathlib.Omega.{arith}
-use mathlib.Core.List.{List, [], _∷_, _++_, map}
+use mathlib.Core.List.{List, [], _∷_, _++_}
 use mathlib.Core.Bool.{Bool, true, false, cond, _&&_, false≢true}
 use lib.ListN.{length, length-append}
 use Rattle.base.specs.Lists.{All}
@@ -10,7 +10,7 @@ use Rattle.receiver.specs.Packet.{Packet}
 use Rattle.receiver.specs.Joining.{joined, left, keptOpen}
 use Rattle.lawful.specs.Train.{Piece, cut, inner, final, Full, closed, packets, runOf, Portion, portion, obus, obusIn, join, whole}
 use Rattle.lawful.proofs.Trains.{join-portion}
-use Rattle.delivery.proofs.Walk.{apart, walk, left-snoc, Ready, start, inside, cut-at}
+use Rattle.delivery.proofs.Walk.{walk, left-snoc, Ready, start, inside, cut-at}
 
 -- the fragment that a packet leaves open
 abbrev pub noted : List ℕ → Packet → List (List ℕ)
@@ -39,13 +39,13 @@ module _ (Q : List ℕ → Type 0) (q : Q []) where
   none-open false l h = h
 
   wave : (taken : ℕ → Bool) (t : List Piece) (k : ℕ) (o : List ℕ) (z : Bool) (es : List (List ℕ)) (ps : List Portion) → Full t → Ready o z es (whole taken ps) (join ps)
-      → All Q (cuts (join ps) t) → All Q (walk noted taken k o (map apart (packets z es t)))
+      → All Q (cuts (join ps) t) → All Q (walk noted taken k o (packets z es t))
   unfolding walk packets cuts join whole keptOpen left
   wave taken [] k o z [] ps f r h = tt
   wave taken [] k o z (e ∷ es) ps f r h = none-open (taken k) [] tt
   wave taken (cut b ∷ t) k o z es ps f r h =
       rw (r .joins b)
-      (at-cut (taken k) (whole taken ps) (joined o z es) (join ps ++ b) (λ n. walk noted taken (suc k) n (map apart (packets true [] t))) (r .lost) (h .0)
+      (at-cut (taken k) (whole taken ps) (joined o z es) (join ps ++ b) (λ n. walk noted taken (suc k) n (packets true [] t)) (r .lost) (h .0)
       (λ n e. wave taken t (suc k) n true [] (ps ++ (portion k b ∷ [])) (f .1) (cut-at taken ps k b n (f .0) e) (rw (join-portion ps k b) (h .1))))
   wave taken (inner b ∷ t) k o z es ps f r h = wave taken t k o z (es ++ (b ∷ [])) [] (f .1) (inside o z es b) h
   wave taken (final b ∷ t) k o z es ps f r h = none-open (taken k) _ (wave taken t (suc k) [] false [] [] (f .1) (start []) h)
@@ -71,6 +71,6 @@ module _ (size : ℕ) where
   cuts-small (inner b ∷ t) c k ps e h = cuts-small t false k [] e (h .1)
   cuts-small (final b ∷ t) c k ps e h = cuts-small t true (suc k) [] e (h .1)
 
-  pub walk-noted : (taken : ℕ → Bool) (t : List Piece) → Full t → closed true t ≡ true → All (λ o. Small (join o)) (obusIn t) → All Small (walk noted taken 0 [] (map apart (runOf t)))
+  pub walk-noted : (taken : ℕ → Bool) (t : List Piece) → Full t → closed true t ≡ true → All (λ o. Small (join o)) (obusIn t) → All Small (walk noted taken 0 [] (runOf t))
   unfolding join whole
   walk-noted taken t f c h = wave Small (omega arith) taken t 0 [] false [] [] f (start []) (cuts-small t true 0 [] c h)

@@ -3,7 +3,7 @@ use mathlib.Core.Path.{_≡_, sym, ap, subst, _∙_}
 use Prim.Native.Nat.{ℕ, _<_}
 use mathlib.Core.List.{List, [], map, flatMap}
 use mathlib.Core.Bool.{Bool, cond}
-use lib.ListN.{length, length-map}
+use lib.ListN.{length}
 use Rattle.base.specs.Answers.{given}
 use Rattle.base.specs.Lists.{keep, All}
 use Rattle.base.proofs.Lists.{all-keep}
@@ -16,9 +16,9 @@ use Rattle.lawful.proofs.Lists.{all-of-map}
 use Rattle.lawful.proofs.Reading.{carried-count}
 use Rattle.lawful.proofs.Trains.{run-full}
 use Rattle.delivery.specs.Arrivals.{timely}
-use Rattle.delivery.specs.Calls.{packetsIn, calls}
+use Rattle.delivery.specs.Calls.{packetsIn, takenOr14, calls}
 use Rattle.delivery.specs.Delivery.{Delivery}
-use Rattle.delivery.proofs.Walk.{apart, walk-handed}
+use Rattle.delivery.proofs.Walk.{walk-handed}
 use Rattle.delivery.proofs.Open.{noted, Small, walk-noted}
 use Rattle.delivery.proofs.Follow.{near-in, follow, follow-walk}
 use Rattle.delivery.proofs.Timely.{advances, advances-first}
@@ -26,25 +26,25 @@ use Rattle.delivery.proofs.OneCall.{wireBytes, wires-given}
 use Rattle.delivery.proofs.Exchange.{place-at, Agrees, begins}
 
 -- on packets taken apart, by places: what is handed out under loss
-pub loss : (t : List Piece) (r : List ℕ) → Full t → All (λ a. a < length (map apart (runOf t))) r
-    → follow handed (map apart (runOf t)) 0 [] r ≡ map join (keep (whole (timely r)) (obusIn t))
-loss t r f h = follow-walk handed (map apart (runOf t)) r h 0 [] ∙ walk-handed (timely r) t f
+pub loss : (t : List Piece) (r : List ℕ) → Full t → All (λ a. a < length (runOf t)) r
+    → follow handed (runOf t) 0 [] r ≡ map join (keep (whole (timely r)) (obusIn t))
+loss t r f h = follow-walk handed (runOf t) r h 0 [] ∙ walk-handed (timely r) t f
 
 pub delivery : Delivery
 delivery t payloads first size mtu store arrivals l near sp =
     record {
       out = ap given (agrees .out ∙ ap (flatMap wireBytes) lost) ∙ sym (wires-given outs fine);
-      refusals = agrees .says ∙ ap (map (λ (b : Bool). cond b 0 14)) (advances-first r);
+      refusals = agrees .says ∙ ap (map takenOr14) (advances-first r);
     }
   where
     r : List ℕ
     r = packetsIn arrivals
 
     run : List Packet
-    run = map apart (runOf t)
+    run = runOf t
 
     places : All (λ a. a < length run) r
-    places = subst (λ (n : ℕ). All (λ a. a < n) r) (carried-count payloads (runOf t) (l .carried) ∙ sym (length-map (runOf t) apart)) (near-in (length payloads) r near)
+    places = subst (λ (n : ℕ). All (λ a. a < n) r) (carried-count payloads (runOf t) (l .carried)) (near-in (length payloads) r near)
 
     outs : List (List ℕ)
     outs = map join (keep (whole (timely r)) (obusIn t))

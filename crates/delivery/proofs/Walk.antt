@@ -9,13 +9,8 @@ use lib.ListN.{length-append}
 use Rattle.base.specs.Lists.{keep}
 use Rattle.receiver.specs.Packet.{Packet}
 use Rattle.receiver.specs.Joining.{joined, finished, left, handed, keptOpen}
-use Rattle.lawful.specs.Train as train
 use Rattle.lawful.specs.Train.{Piece, cut, inner, final, NonEmpty, Full, packets, runOf, Portion, portion, obus, obusIn, join, whole}
 use Rattle.lawful.proofs.Trains.{join-portion, whole-portion}
-
--- a packet of a train, as the receiver has it
-abbrev pub apart : train.Packet → Packet
-apart p = record { z = p .z; y = p .y; elements = p .elements }
 
 -- `emit` says what is noted of each packet that is taken, by the fragment that it may join: `handed`, or another view of the same walk.
 -- `k` is the place of the first of the packets, and `o` the fragment that is open before it, none if the packet before was lost
@@ -124,13 +119,13 @@ module _ (taken : ℕ → Bool) where
   out-of k ps t = map join (keep (whole taken) (obus k ps t))
 
   wave : (t : List Piece) (k : ℕ) (o : List ℕ) (z : Bool) (es : List (List ℕ)) (ps : List Portion) → Full t → Ready o z es (whole taken ps) (join ps)
-      → walk handed taken k o (map apart (packets z es t)) ≡ cond (taken k) (joined o z es) [] ++ out-of k ps t
+      → walk handed taken k o (packets z es t) ≡ cond (taken k) (joined o z es) [] ++ out-of k ps t
   unfolding walk packets obus keep join whole finished left handed keptOpen out-of
   wave [] k o z [] ps f r = rw (nothing-yet (taken k) o z)
   wave [] k o z (e ∷ es) ps f r = alone (taken k) (joined o z (e ∷ es))
   wave (cut b ∷ t) k o z es ps f r =
       rw (r .joins b)
-      (at-cut (taken k) (whole taken ps) (joined o z es) _ (join ps ++ b) (λ n. walk handed taken (suc k) n (map apart (packets true [] t))) (r .lost)
+      (at-cut (taken k) (whole taken ps) (joined o z es) _ (join ps ++ b) (λ n. walk handed taken (suc k) n (packets true [] t)) (r .lost)
       (λ n e. wave t (suc k) n true [] (ps ++ (portion k b ∷ [])) (f .1) (cut-at taken ps k b n (f .0) e) ∙ rw (nothing-yet (taken (suc k)) n true)))
   wave (inner b ∷ t) k o z es ps f r =
       wave t k o z (es ++ (b ∷ [])) [] (f .1) (inside o z es b)
@@ -139,6 +134,6 @@ module _ (taken : ℕ → Bool) where
       rw (r .joins b, kept-cons taken ps k b (obus (suc k) [] t), wave t (suc k) [] false [] [] (f .1) (start []), nothing-yet (taken (suc k)) [] false)
       (at-end (taken k) (whole taken ps) (joined o z es) _ (join ps ++ b))
 
-pub walk-handed : (taken : ℕ → Bool) (t : List Piece) → Full t → walk handed taken 0 [] (map apart (runOf t)) ≡ map join (keep (whole taken) (obusIn t))
+pub walk-handed : (taken : ℕ → Bool) (t : List Piece) → Full t → walk handed taken 0 [] (runOf t) ≡ map join (keep (whole taken) (obusIn t))
 unfolding join whole out-of
 walk-handed taken t f = wave taken t 0 [] false [] [] f (start []) ∙ rw (nothing-yet (taken 0) [] false)

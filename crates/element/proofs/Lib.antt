@@ -4,5 +4,4 @@ pub mod Reading
 pub mod Laws
 pub mod Order
 pub mod Walking
-pub mod Outcomes
 pub mod Carried

@@ -1,3 +1,4 @@
 pub mod Header
 pub mod Elements
+pub mod Packet
 pub mod Paper

@@ -8,6 +8,7 @@ use mathlib.Core.List.{List, [], _∷_, _++_}
 use mathlib.Core.Bool.{Bool, true, false, _&&_}
 use lib.ListN.{length}
 use Rattle.base.specs.Lists.{All}
+pub use Rattle.element.specs.Packet.{Packet}
 
 pub data Piece : Type 0 where
   -- the packet ends here, inside the OBU
@@ -37,12 +38,6 @@ closed c (inner b ∷ t) = closed false t
 closed c (final b ∷ t) = closed true t
 
 -- ---- by packet
-
--- z: the first element goes on with an OBU of the packet before; y: the last element's OBU goes on in the packet after
-pub record Packet : Type 0 where
-  pub z : Bool
-  pub y : Bool
-  pub elements : List (List ℕ)
 
 -- `z` and `es` are of the packet that is being filled
 unfoldable pub packets : Bool → List (List ℕ) → List Piece → List Packet

@@ -1,16 +1,13 @@
--- The laws of a plan for the kept OBUs of a unit, and of the call's answers. Assumes nothing.
+-- The laws of a plan for the kept OBUs of a unit. Assumes nothing.
 --     unit-positive   every kept OBU has a byte: so Laws and Pieces hold of every unit's plan
 --     unit-joined     the elements, in order, joined, are what is sent of the kept OBUs (P13)
 --     unit-crate      the plan is the crate's (D2)
---     paper-one       the rules' number and values tell the answers apart (A2)
 use mathlib.Core.Path.{_≡_, refl, sym, ap₂, subst}
 use Prim.Native.Nat.{ℕ, zero, suc, _≤_}
 use native.Mathlib.Omega.{arith}
 use mathlib.Core.List.{List, [], _∷_, map, flatMap}
 use lib.ListN.{length}
 use Rattle.base.specs.Lists.{All}
-use Rattle.base.specs.Refusals.{numberOf}
-use Rattle.base.proofs.Refusals.{number-one}
 use Rattle.obu.specs.Unit.{unitLimit, Placed, keptOf, obusOf}
 use Rattle.obu.specs.Wire.{sent}
 use Rattle.obu.specs.declared.Obu.{Obu}
@@ -19,10 +16,6 @@ use Rattle.packetizer.specs.Plan.{leastMtu}
 use Rattle.packetizer.specs.Elements.{elementsOf}
 use Rattle.packetizer.specs.Call.{mtuLimit, sizesOf, unitPlan}
 use Rattle.packetizer.specs.Crate.{packetize}
-use Rattle.packetizer.specs.Paper.{paper}
-use Rattle.packetizer.specs.declared.Planned.{Planned}
-use Rattle.packetizer.specs.declared.PlanAnswer.{PlanAnswer}
-use Rattle.packetizer.specs.declared.PlanAnswer.the-variants as answer
 use Rattle.packetizer.proofs.Planning.{Positive}
 use Rattle.packetizer.proofs.Pieces.{partOf, joined, plan-joined}
 use Rattle.packetizer.proofs.SameAsCrate.{crate-same}
@@ -65,14 +58,3 @@ unit-joined mtu unit l =
 pub unit-crate : (mtu : ℕ) (unit : List ℕ) → mtu ≤ mtuLimit → length unit ≤ unitLimit → packetize mtu (sizesOf unit) ≡ unitPlan mtu unit
 unit-crate mtu unit m u =
     crate-same mtu (sizesOf unit) (omega arith) (λ j l. let s = unit-small unit u j l in omega arith)
-
--- ---- the answers
-
-pub paper-one : (a b : PlanAnswer) → paper a ≡ paper b → a ≡ b
-paper-one (answer.Planned p) (answer.Planned q) e = cc
-paper-one (answer.Planned p) (answer.Refused r at) e = let z : _≡_ {A = ℕ} 0 1 = cc in absurd (omega arith)
-paper-one (answer.Refused r at) (answer.Planned q) e = let z : _≡_ {A = ℕ} 0 1 = cc in absurd (omega arith)
-paper-one (answer.Refused r at) (answer.Refused s bt) e =
-    let n : numberOf r ≡ numberOf s = cc in
-    let q = number-one r s n in
-    cc

@@ -3,3 +3,4 @@ pub mod Rows
 pub mod Reading
 pub mod Recording
 pub mod Units
+pub mod Runs

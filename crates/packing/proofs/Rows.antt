@@ -13,7 +13,7 @@ use Rattle.packetizer.specs.Elements.{elementsFrom}
 use Rattle.aggregation.specs.Header.{nOf, byteOf}
 use Rattle.payloader.specs.Payload.{fielded, payload, payloadsFrom}
 use Rattle.train.specs.Bytes.{bigEndian, valueAfter}
-use Rattle.packing.specs.Pack.{Stop, ended, cutAt, refusedAt, headIn, lengthIn, numbered, numberAfter, unitIn, packedFrom, packOf, Head, found, none, headWidth}
+use Rattle.packing.specs.Pack.{Stop, ended, cutAt, refusedAt, headIn, lengthIn, numbered, numberAfter, unitsFrom, unitsIn, packOf}
 
 -- three units, the first with no kept OBU, over the end of the numbers; the third refused; cut; its length cut; over the store;
 -- without it; no unit; an mtu of 2; an mtu over its limit; another version; a cut head; nothing
@@ -48,15 +48,11 @@ trains :
     ∷ []
     ∷ []
     ∷ []
-unfolding inputs headIn lengthIn numbered numberAfter unitIn packedFrom bigEndian valueAfter listed scanFrom frontOf headed fieldIn keep encodeIn planOf planFrom place insert spread fragmentOf needOf isFull chargeOf largestFragment elementsFrom nOf byteOf fielded payload payloadsFrom flatMap
+unfolding inputs headIn lengthIn numbered numberAfter unitsFrom bigEndian valueAfter listed scanFrom frontOf headed fieldIn keep encodeIn planOf planFrom place insert spread fragmentOf needOf isFull chargeOf largestFragment elementsFrom nOf byteOf fielded payload payloadsFrom flatMap
 trains = refl
 
-stopBy : List ℕ → Head → Stop
-stopBy units (found h) = packedFrom (h .mtu) 0 (h .first) units 0 .stop
-stopBy units none = ended
-
 stops :
-    map (λ (l : List ℕ). stopBy (drop headWidth l) (headIn l)) inputs
+    map (λ (l : List ℕ). unitsIn l .stop) inputs
     ≡ ended ∷ refusedAt 2 3 ∷ cutAt 2 ∷ cutAt 2 ∷ cutAt 2 ∷ ended ∷ ended ∷ ended ∷ refusedAt 0 1 ∷ ended ∷ ended ∷ ended ∷ []
-unfolding inputs stopBy headIn lengthIn numbered numberAfter unitIn packedFrom bigEndian valueAfter listed scanFrom frontOf headed fieldIn keep encodeIn planOf planFrom place insert spread fragmentOf needOf isFull chargeOf largestFragment elementsFrom nOf byteOf fielded payload payloadsFrom flatMap
+unfolding inputs headIn lengthIn numbered numberAfter unitsFrom bigEndian valueAfter listed scanFrom frontOf headed fieldIn keep encodeIn planOf planFrom place insert spread fragmentOf needOf isFull chargeOf largestFragment elementsFrom nOf byteOf fielded payload payloadsFrom flatMap
 stops = refl

@@ -116,41 +116,50 @@ pub data Stop : Type 0 where
   cutAt : ℕ → Stop
   refusedAt : ℕ → ℕ → Stop
 
-pub record Packed : Type 0 where
-  pub packets : List Packet
+pub record Units : Type 0 where
+  pub units : List (List ℕ)
   pub stop : Stop
 
-abbrev pub stopped : Stop → Packed
-stopped s = record { packets = []; stop = s }
+abbrev pub stopped : Stop → Units
+stopped s = record { units = []; stop = s }
 
--- unit i, whose payloads are numbered from n on, and then the rest, from the next number on
-abbrev pub withUnit : ℕ → ℕ → List (List ℕ) → Unit′ → (ℕ → Packed) → Packed
-withUnit i n payloads cutShort rest = stopped (cutAt i)
-withUnit i n payloads (refusedBy k) rest = stopped (refusedAt i k)
-withUnit i n payloads (packed r) rest =
-    record { packets = numbered n payloads ++ rest (r .next) .packets; stop = rest (r .next) .stop }
+-- unit i, which is packed or refused, and then the rest
+abbrev pub withUnit : ℕ → List ℕ → Answer Payloads → Units → Units
+withUnit i unit (given p) rest = record { units = unit ∷ rest .units; stop = rest .stop }
+withUnit i unit (refused k at) rest = stopped (refusedAt i k)
 
 -- by its length; the rest begins so many bytes further on
-abbrev pub withLength : ℕ → ℕ → ℕ → List ℕ → Length → (ℕ → ℕ → Packed) → Packed
-withLength mtu i n l over rest = stopped ended
-withLength mtu i n l cut rest = stopped (cutAt i)
-withLength mtu i n l (stated s) rest =
-    withUnit i n (payloadsOf mtu (take s (drop unitWidth l)))
-    (unitIn (answerIn listRecords listRecords outputBytes) mtu n s (drop unitWidth l))
-    (rest (unitWidth + s))
+abbrev pub withLength : ℕ → ℕ → List ℕ → Length → (ℕ → Units) → Units
+withLength mtu i l over rest = stopped ended
+withLength mtu i l cut rest = stopped (cutAt i)
+withLength mtu i l (stated s) rest =
+    cond (ltb (length (drop unitWidth l)) s)
+    (stopped (cutAt i))
+    (withUnit i (take s (drop unitWidth l)) (answerIn listRecords listRecords outputBytes mtu (take s (drop unitWidth l))) (rest (unitWidth + s)))
 
 -- the units from unit i on of some bytes, the first `skip` of which belong to the unit before
-unfoldable pub packedFrom : ℕ → ℕ → ℕ → List ℕ → ℕ → Packed
-packedFrom mtu i n [] skip = stopped ended
-packedFrom mtu i n (b ∷ l) (suc skip) = packedFrom mtu i n l skip
-packedFrom mtu i n (b ∷ l) zero =
-    withLength mtu i n (b ∷ l) (lengthIn (b ∷ l)) (λ span next. packedFrom mtu (i + 1) next l (span - 1))
+unfoldable pub unitsFrom : ℕ → ℕ → List ℕ → ℕ → Units
+unitsFrom mtu i [] skip = stopped ended
+unitsFrom mtu i (b ∷ l) (suc skip) = unitsFrom mtu i l skip
+unitsFrom mtu i (b ∷ l) zero = withLength mtu i (b ∷ l) (lengthIn (b ∷ l)) (λ span. unitsFrom mtu (i + 1) l (span - 1))
+
+abbrev pub unitsBy : List ℕ → Head → Units
+unitsBy l (found h) = unitsFrom (h .mtu) 0 l 0
+unitsBy l none = stopped ended
+
+-- those of an input, and what stops it
+abbrev pub unitsIn : List ℕ → Units
+unitsIn input = unitsBy (drop headWidth input) (headIn input)
 
 -- ---- the train
 
-abbrev pub trainBy : List ℕ → Head → List ℕ
-trainBy units (found h) = trainOf lengthWidth trainVersion (packedFrom (h .mtu) 0 (h .first) units 0 .packets)
+-- their packets, in one run (L7)
+abbrev pub packetsOf : PackHead → List (List ℕ) → List Packet
+packetsOf h units = numbered (h .first) (flatMap (payloadsOf (h .mtu)) units)
+
+abbrev pub trainBy : List (List ℕ) → Head → List ℕ
+trainBy units (found h) = trainOf lengthWidth trainVersion (packetsOf h units)
 trainBy units none = []
 
 abbrev pub packOf : List ℕ → List ℕ
-packOf input = trainBy (drop headWidth input) (headIn input)
+packOf input = trainBy (unitsIn input .units) (headIn input)

@@ -4,7 +4,9 @@
 --                      (Behind: and no other is)
 --     taken-fits       what is taken has room
 --     outcome-held     a state that is possible is what it holds
+--     Holding          state and store hold something: outcome-holding, holding-next, holding-fresh
 --     held-again       state and store, as a call leaves them, hold what the call leads to
+--     answer-within    what goes out is within the output
 --     store-length, output-length    store and output keep their lengths
 --     wires-append, wires-each       what goes out for OBUs one after the other
 use mathlib.Core.Path.{_≡_, refl, sym, ap, subst, _∙_}
@@ -23,10 +25,11 @@ use Rattle.obu.specs.Wire.{wire}
 use Rattle.element.specs.Elements.{payloadLimit, payloadElements}
 use Rattle.element.specs.declared.Part.{Part}
 use Rattle.receiver.specs.Packet.{Packet, packetBy, packetOf}
-use Rattle.receiver.specs.Joining.{Held, ahead, next, out}
+use Rattle.receiver.specs.Joining.{Held, fresh, ahead, next, out}
 use Rattle.receiver.specs.Handing.{before, wires}
-use Rattle.receiver.specs.Call.{fragmentLimit, Taken, fitted, opened, taken, heldIn, stateOf, outcome, storeBy, outputBy, storeAfter, outputAfter}
+use Rattle.receiver.specs.Call.{fragmentLimit, Taken, fitted, opened, taken, heldIn, stateOf, outcome, answered, receiveAnswer, storeBy, outputBy, storeAfter, outputAfter}
 use Rattle.receiver.specs.declared.State.{State}
+use Rattle.receiver.specs.declared.Received.{Received}
 use Rattle.receiver.proofs.Cursors.{payload-some, payload-small}
 use Rattle.receiver.proofs.Lists.{front-length}
 use Rattle.receiver.proofs.Takes.{fitted-all}
@@ -141,6 +144,37 @@ module _ (state : State) (number : ℕ) (payload store output : List ℕ) where
       go (given t) f = front-length (t .bytes) output (f .2)
       go (refused n at) f = refl
 
+  pub answer-within : (r : Received) → given r ≡ receiveAnswer state number payload store output → r .bytes ≤ length output
+  answer-within r e = go (outcome state number payload store output) outcome-fits e
+    where
+      go : (a : Answer Taken) → Fits (length store) (length output) a → given r ≡ answered a → r .bytes ≤ length output
+      go (given t) f q =
+          let same : r ≡ record { state = stateOf (t .held); bytes = length (t .bytes) } = cc in
+          omega (arith, f .2, ap (λ (x : Received). x .bytes) same)
+      go (refused n at) f q = let z : _≡_ {A = ℕ} 0 1 = cc in absurd (omega arith)
+
 pub held-again : (h : Held) (store : List ℕ) → heldIn (stateOf h) (front (h .fragment) store) ≡ h
 held-again h store =
     ap (λ (f : List ℕ). record { begun = h .begun; last = h .last; fragment = f }) (take-append-seam (h .fragment) (drop (length (h .fragment)) store))
+
+-- state and store hold h, and the open fragment has the size that it may have
+pub record Holding (h : Held) (store : List ℕ) : Type 0 where
+  pub stands : heldIn (stateOf h) store ≡ h
+  pub within : length (h .fragment) ≤ length store
+  pub limited : length (h .fragment) ≤ fragmentLimit
+
+pub holding-fresh : (store : List ℕ) → Holding fresh store
+holding-fresh store = record { stands = refl; within = omega arith; limited = omega arith }
+
+module _ (h : Held) (number : ℕ) (payload store output : List ℕ) (s : Holding h store) where
+  pub outcome-holding : outcome (stateOf h) number payload store output ≡ taken (length store) (length output) h number payload
+  outcome-holding =
+      outcome-held (stateOf h) number payload store output (s .within) (s .limited)
+      ∙ ap (λ (x : Held). taken (length store) (length output) x number payload) (s .stands)
+
+  pub holding-next : (t : Taken) → taken (length store) (length output) h number payload ≡ given t
+      → Holding (t .held) (front (t .held .fragment) store) × (length (front (t .held .fragment) store) ≡ length store)
+  holding-next t e =
+      let f = taken-fits (length store) (length output) h number payload t e in
+      let l = front-length (t .held .fragment) store (f .0) in
+      (record { stands = held-again (t .held) store; within = rw l (f .0); limited = f .1 }, l)

@@ -1,4 +1,4 @@
--- The receive call's definition, by the tests that the code makes; and that two outcomes allowed by its contract are equal (A2). Assumes nothing.
+-- The receive call's definition, by the tests that the code makes. Assumes nothing.
 use mathlib.Core.Path.{_≡_, refl, ap, _∙_}
 use Prim.Native.Nat.{ℕ, _≤_, _<_}
 use native.Mathlib.Omega.{arith}
@@ -7,8 +7,6 @@ use mathlib.Core.Bool.{Bool, true, false, cond}
 use lib.ListN.{length, getD}
 use borrow.Author.Tests.{lt-ltb, le-ltb, eq-eqb, ne-eqb}
 use Rattle.base.specs.Answers.{Answer, given, refused}
-use Rattle.base.specs.Refusals.{numberOf}
-use Rattle.base.proofs.Refusals.{number-one}
 use Rattle.element.specs.Elements.{nowhere, chosen, payloadElements, payloadLimit}
 use Rattle.element.specs.Paper.{walked}
 use Rattle.element.specs.declared.Part.{Part}
@@ -17,10 +15,7 @@ use Rattle.receiver.specs.Packet.{packetBy, packetOf}
 use Rattle.receiver.specs.Joining.{Held, isAhead}
 use Rattle.receiver.specs.Call.{fragmentLimit, opened, taken, heldIn, outcome}
 use Rattle.receiver.specs.Inside.{partsBy}
-use Rattle.receiver.specs.Paper.{paper}
 use Rattle.receiver.specs.declared.State.{State}
-use Rattle.receiver.specs.declared.Receipt.{Receipt}
-use Rattle.receiver.specs.declared.Receipt.the-variants as receipt
 
 module _ (state : State) (number : ℕ) (payload store output : List ℕ) where
   pub outcome-store : length store < state .«open» → outcome state number payload store output ≡ refused 12 0
@@ -74,11 +69,3 @@ opened-refused space room h number payload n at = go (payloadElements payload)
     go : (x : Answer (List Part)) → refused n at ≡ walked 0 x → opened space room h number (packetBy payload x) ≡ refused n 0
     go (given ps) e = let z : _≡_ {A = ℕ} 0 1 = cc in absurd (omega arith)
     go (refused m a) e = let f : m ≡ n = cc in ap (λ (i : ℕ). refused i 0) f
-
--- ---- one outcome
-
-pub receipt-one : (a b : Receipt) → paper a ≡ paper b → a ≡ b
-receipt-one (receipt.Received r) (receipt.Received s) e = let f : r ≡ s = cc in ap receipt.Received f
-receipt-one (receipt.Received r) (receipt.Refused s) e = let z : _≡_ {A = ℕ} 0 1 = cc in absurd (omega arith)
-receipt-one (receipt.Refused r) (receipt.Received s) e = let z : _≡_ {A = ℕ} 0 1 = cc in absurd (omega arith)
-receipt-one (receipt.Refused r) (receipt.Refused s) e = let n : numberOf r ≡ numberOf s = cc in ap receipt.Refused (number-one r s n)

@@ -1,18 +1,13 @@
 -- A payload taken apart: Z, Y and the bytes of its elements (H1, E1 to E6).
 use Prim.Native.Nat.{ℕ}
 use mathlib.Core.List.{List, map}
-use mathlib.Core.Bool.{Bool}
 use lib.ListN.{getD}
 use lib.Dec.{eqb}
 use Rattle.base.specs.Answers.{Answer, given, refused}
 use Rattle.element.specs.Header.{zBit, yBit}
 use Rattle.element.specs.Elements.{bytesOf, payloadElements}
 use Rattle.element.specs.declared.Part.{Part}
-
-pub record Packet : Type 0 where
-  pub z : Bool
-  pub y : Bool
-  pub elements : List (List ℕ)
+pub use Rattle.element.specs.Packet.{Packet}
 
 -- with these parts as its elements; the refusal of the receive call carries 0
 abbrev pub packetBy : List ℕ → Answer (List Part) → Answer Packet

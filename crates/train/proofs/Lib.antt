@@ -5,4 +5,3 @@ pub mod Reading
 pub mod Stepping
 pub mod Written
 pub mod Cut
-pub mod Outcomes

@@ -1,0 +1,283 @@
+-- For every enum that a call answers with: the number and values that the rules have for it tell its cases apart (A3). Each definition
+-- is undone case by case, and one law, `tells-apart`, does the rest. Assumes nothing.
+use mathlib.Core.Path.{_≡_, refl, ap}
+use Prim.Native.Nat.{ℕ}
+use Rattle.base.specs.Answers.{Answer, given, refused}
+use Rattle.base.specs.declared.Refusal.{Refusal}
+use Rattle.base.proofs.Refusals.{named, number-names, tells-apart}
+use Rattle.leb128.specs.Field.{Field, sized, unreadable}
+use Rattle.leb128.specs.Paper as leb128
+use Rattle.leb128.specs.declared.SizeRead.{SizeRead}
+use Rattle.leb128.specs.declared.SizeRead.the-variants as size
+use Rattle.obu.specs.Front as front
+use Rattle.obu.specs.Paper as obu
+use Rattle.obu.specs.declared.ObuRead.{ObuRead}
+use Rattle.obu.specs.declared.ObuRead.the-variants as read
+use Rattle.obu.specs.declared.ObuList.{ObuList}
+use Rattle.obu.specs.declared.ObuList.the-variants as list
+use Rattle.packetizer.specs.Paper as packetizer
+use Rattle.packetizer.specs.declared.PlanAnswer.{PlanAnswer}
+use Rattle.packetizer.specs.declared.PlanAnswer.the-variants as plan
+use Rattle.aggregation.specs.Paper as aggregation
+use Rattle.aggregation.specs.declared.HeaderAnswer.{HeaderAnswer}
+use Rattle.aggregation.specs.declared.HeaderAnswer.the-variants as header
+use Rattle.payloader.specs.Paper as payloader
+use Rattle.payloader.specs.declared.PayloadAnswer.{PayloadAnswer}
+use Rattle.payloader.specs.declared.PayloadAnswer.the-variants as payloads
+use Rattle.element.specs.Paper as element
+use Rattle.element.specs.declared.ElementRead.{ElementRead}
+use Rattle.element.specs.declared.ElementRead.the-variants as part
+use Rattle.element.specs.declared.Walk.{Walk}
+use Rattle.element.specs.declared.Walk.the-variants as walk
+use Rattle.receiver.specs.Paper as receiver
+use Rattle.receiver.specs.declared.Receipt.{Receipt}
+use Rattle.receiver.specs.declared.Receipt.the-variants as receipt
+use Rattle.receiver.specs.declared.handing.HandedOut.{HandedOut}
+use Rattle.receiver.specs.declared.handing.HandedOut.the-variants as handed
+use Rattle.train.specs.Train as train
+use Rattle.train.specs.Paper as trains
+use Rattle.train.specs.declared.HeadRead.{HeadRead}
+use Rattle.train.specs.declared.HeadRead.the-variants as head
+use Rattle.train.specs.declared.LengthRead.{LengthRead}
+use Rattle.train.specs.declared.LengthRead.the-variants as stated
+use Rattle.train.specs.declared.RecordRead.{RecordRead}
+use Rattle.train.specs.declared.RecordRead.the-variants as found
+use Rattle.packing.specs.Pack as pack
+use Rattle.packing.specs.Paper as packing
+use Rattle.packing.specs.declared.PackHeadRead.{PackHeadRead}
+use Rattle.packing.specs.declared.PackHeadRead.the-variants as packHead
+use Rattle.packing.specs.declared.UnitLength.{UnitLength}
+use Rattle.packing.specs.declared.UnitLength.the-variants as unitLength
+use Rattle.packing.specs.declared.UnitAnswer.{UnitAnswer}
+use Rattle.packing.specs.declared.UnitAnswer.the-variants as unit
+use Rattle.listing.specs.Input as input
+use Rattle.listing.specs.Paper as listing
+use Rattle.listing.specs.declared.InputRead.{InputRead}
+use Rattle.listing.specs.declared.InputRead.the-variants as whole
+use Rattle.unpacking.specs.Unpack as unpack
+use Rattle.unpacking.specs.Paper as unpacking
+use Rattle.unpacking.specs.declared.RecordStep.{RecordStep}
+use Rattle.unpacking.specs.declared.RecordStep.the-variants as step
+
+-- an answer of two cases, back from what was asked for or from the refusal and its offset
+abbrev back : {R A : Type 0} → (A → R) → (Refusal → ℕ → R) → Answer A → R
+back f g (given a) = f a
+back f g (refused n at) = g (named n) at
+
+-- ---- size fields
+
+sizeBack : Field → SizeRead
+sizeBack (sized v n) = size.Read (record { value = v; used = n })
+sizeBack (unreadable n) = size.Refused (named n)
+
+pub size-one : (a b : SizeRead) → leb128.paper a ≡ leb128.paper b → a ≡ b
+unfolding sizeBack
+size-one = tells-apart leb128.paper sizeBack undone
+  where
+    undone : (r : SizeRead) → sizeBack (leb128.paper r) ≡ r
+    undone (size.Read f) = refl
+    undone (size.Refused r) = ap size.Refused (number-names r)
+
+-- ---- OBUs
+
+readBack : front.Seen → ObuRead
+readBack (front.found f) = read.Found (record { header = f .header; extension = f .extension; field = f .field; payload = f .payload })
+readBack (front.stopped n) = read.Refused (named n)
+
+pub read-one : (a b : ObuRead) → obu.paperRead a ≡ obu.paperRead b → a ≡ b
+unfolding readBack
+read-one = tells-apart obu.paperRead readBack undone
+  where
+    undone : (r : ObuRead) → readBack (obu.paperRead r) ≡ r
+    undone (read.Found f) = refl
+    undone (read.Refused r) = ap read.Refused (number-names r)
+
+wholeBack : Answer front.Front → ObuRead
+wholeBack = back (λ f. read.Found (record { header = f .header; extension = f .extension; field = f .field; payload = f .payload })) (λ r at. read.Refused r)
+
+pub whole-one : (a b : ObuRead) → obu.paperWhole a ≡ obu.paperWhole b → a ≡ b
+unfolding wholeBack
+whole-one = tells-apart obu.paperWhole wholeBack undone
+  where
+    undone : (r : ObuRead) → wholeBack (obu.paperWhole r) ≡ r
+    undone (read.Found f) = refl
+    undone (read.Refused r) = ap read.Refused (number-names r)
+
+listBack : Answer ℕ → ObuList
+listBack = back (λ n. list.Listed (record { obus = n })) list.Refused
+
+pub list-one : (a b : ObuList) → obu.paperList a ≡ obu.paperList b → a ≡ b
+unfolding listBack
+list-one = tells-apart obu.paperList listBack undone
+  where
+    undone : (r : ObuList) → listBack (obu.paperList r) ≡ r
+    undone (list.Listed l) = refl
+    undone (list.Refused r at) = ap (λ (q : Refusal). list.Refused q at) (number-names r)
+
+-- ---- plan, header, payloads
+
+pub plan-one : (a b : PlanAnswer) → packetizer.paper a ≡ packetizer.paper b → a ≡ b
+plan-one = tells-apart packetizer.paper (back plan.Planned plan.Refused) undone
+  where
+    undone : (r : PlanAnswer) → back plan.Planned plan.Refused (packetizer.paper r) ≡ r
+    undone (plan.Planned p) = refl
+    undone (plan.Refused r at) = ap (λ (q : Refusal). plan.Refused q at) (number-names r)
+
+headerBack : Answer ℕ → HeaderAnswer
+headerBack = back header.Header (λ r at. header.Refused r)
+
+pub header-one : (a b : HeaderAnswer) → aggregation.paper a ≡ aggregation.paper b → a ≡ b
+unfolding headerBack
+header-one = tells-apart aggregation.paper headerBack undone
+  where
+    undone : (r : HeaderAnswer) → headerBack (aggregation.paper r) ≡ r
+    undone (header.Header h) = refl
+    undone (header.Refused r) = ap header.Refused (number-names r)
+
+pub payloads-one : (a b : PayloadAnswer) → payloader.paper a ≡ payloader.paper b → a ≡ b
+payloads-one = tells-apart payloader.paper (back payloads.Written payloads.Refused) undone
+  where
+    undone : (r : PayloadAnswer) → back payloads.Written payloads.Refused (payloader.paper r) ≡ r
+    undone (payloads.Written p) = refl
+    undone (payloads.Refused r at) = ap (λ (q : Refusal). payloads.Refused q at) (number-names r)
+
+-- ---- elements, the receiver
+
+pub part-one : (a b : ElementRead) → element.paperRead a ≡ element.paperRead b → a ≡ b
+part-one = tells-apart element.paperRead (back part.Found part.Refused) undone
+  where
+    undone : (r : ElementRead) → back part.Found part.Refused (element.paperRead r) ≡ r
+    undone (part.Found p) = refl
+    undone (part.Refused r at) = ap (λ (q : Refusal). part.Refused q at) (number-names r)
+
+pub walk-one : (a b : Walk) → element.paperWalk a ≡ element.paperWalk b → a ≡ b
+walk-one = tells-apart element.paperWalk (back walk.Whole walk.Refused) undone
+  where
+    undone : (r : Walk) → back walk.Whole walk.Refused (element.paperWalk r) ≡ r
+    undone (walk.Whole w) = refl
+    undone (walk.Refused r at) = ap (λ (q : Refusal). walk.Refused q at) (number-names r)
+
+pub receipt-one : (a b : Receipt) → receiver.paper a ≡ receiver.paper b → a ≡ b
+receipt-one = tells-apart receiver.paper (back receipt.Received (λ r at. receipt.Refused r)) undone
+  where
+    undone : (r : Receipt) → back receipt.Received (λ q at. receipt.Refused q) (receiver.paper r) ≡ r
+    undone (receipt.Received r) = refl
+    undone (receipt.Refused r) = ap receipt.Refused (number-names r)
+
+pub handed-one : (a b : HandedOut) → receiver.paperHanded a ≡ receiver.paperHanded b → a ≡ b
+handed-one = tells-apart receiver.paperHanded (back handed.Bytes (λ r at. handed.Refused r)) undone
+  where
+    undone : (r : HandedOut) → back handed.Bytes (λ q at. handed.Refused q) (receiver.paperHanded r) ≡ r
+    undone (handed.Bytes n) = refl
+    undone (handed.Refused r) = ap handed.Refused (number-names r)
+
+-- ---- trains
+
+headBack : Answer ℕ → HeadRead
+headBack = back (λ v. head.Train (record { version = v })) (λ r at. head.Refused r)
+
+pub head-one : (a b : HeadRead) → trains.paperHead a ≡ trains.paperHead b → a ≡ b
+unfolding headBack
+head-one = tells-apart trains.paperHead headBack undone
+  where
+    undone : (r : HeadRead) → headBack (trains.paperHead r) ≡ r
+    undone (head.Train h) = refl
+    undone (head.Refused r) = ap head.Refused (number-names r)
+
+statedBack : train.Length → LengthRead
+statedBack train.over = stated.End
+statedBack (train.stated n) = stated.Stated (record { bytes = n })
+statedBack (train.bad n) = stated.Refused (named n)
+
+pub stated-one : (a b : LengthRead) → trains.paperLength a ≡ trains.paperLength b → a ≡ b
+unfolding statedBack
+stated-one = tells-apart trains.paperLength statedBack undone
+  where
+    undone : (r : LengthRead) → statedBack (trains.paperLength r) ≡ r
+    undone stated.End = refl
+    undone (stated.Stated s) = refl
+    undone (stated.Refused r) = ap stated.Refused (number-names r)
+
+foundBack : train.Front → RecordRead
+foundBack train.ends = found.End
+foundBack (train.holds h) = found.Found h
+foundBack (train.stops n) = found.Refused (named n)
+
+pub found-one : (a b : RecordRead) → trains.paperRecord a ≡ trains.paperRecord b → a ≡ b
+unfolding foundBack
+found-one = tells-apart trains.paperRecord foundBack undone
+  where
+    undone : (r : RecordRead) → foundBack (trains.paperRecord r) ≡ r
+    undone found.End = refl
+    undone (found.Found h) = refl
+    undone (found.Refused r) = ap found.Refused (number-names r)
+
+-- ---- the programs' steps
+
+packHeadBack : pack.Head → PackHeadRead
+packHeadBack (pack.found h) = packHead.Head h
+packHeadBack pack.none = packHead.NoHead
+
+pub pack-head-one : (a b : PackHeadRead) → packing.paperHead a ≡ packing.paperHead b → a ≡ b
+unfolding packHeadBack
+pack-head-one = tells-apart packing.paperHead packHeadBack undone
+  where
+    undone : (r : PackHeadRead) → packHeadBack (packing.paperHead r) ≡ r
+    undone (packHead.Head h) = refl
+    undone packHead.NoHead = refl
+
+unitLengthBack : pack.Length → UnitLength
+unitLengthBack pack.over = unitLength.End
+unitLengthBack (pack.stated n) = unitLength.Stated n
+unitLengthBack pack.cut = unitLength.Cut
+
+pub unit-length-one : (a b : UnitLength) → packing.paperLength a ≡ packing.paperLength b → a ≡ b
+unfolding unitLengthBack
+unit-length-one = tells-apart packing.paperLength unitLengthBack undone
+  where
+    undone : (r : UnitLength) → unitLengthBack (packing.paperLength r) ≡ r
+    undone unitLength.End = refl
+    undone (unitLength.Stated n) = refl
+    undone unitLength.Cut = refl
+
+unitBack : pack.Unit′ → UnitAnswer
+unitBack pack.cutShort = unit.Cut
+unitBack (pack.refusedBy n) = unit.Refused (named n)
+unitBack (pack.packed r) = unit.Packed r
+
+pub unit-one : (a b : UnitAnswer) → packing.paperUnit a ≡ packing.paperUnit b → a ≡ b
+unfolding unitBack
+unit-one = tells-apart packing.paperUnit unitBack undone
+  where
+    undone : (r : UnitAnswer) → unitBack (packing.paperUnit r) ≡ r
+    undone unit.Cut = refl
+    undone (unit.Refused r) = ap unit.Refused (number-names r)
+    undone (unit.Packed r) = refl
+
+inputBack : input.Input → InputRead
+inputBack input.badInput = whole.Bad
+inputBack (input.good m) = whole.Good m
+
+pub input-one : (a b : InputRead) → listing.paperInput a ≡ listing.paperInput b → a ≡ b
+unfolding inputBack
+input-one = tells-apart listing.paperInput inputBack undone
+  where
+    undone : (r : InputRead) → inputBack (listing.paperInput r) ≡ r
+    undone whole.Bad = refl
+    undone (whole.Good m) = refl
+
+stepBack : unpack.Step → RecordStep
+stepBack (unpack.takes r) = step.Taken r
+stepBack (unpack.passes n) = step.PassedOver (named n)
+stepBack (unpack.breaks n) = step.Broken (named n)
+stepBack unpack.quits = step.End
+
+pub step-one : (a b : RecordStep) → unpacking.paperStep a ≡ unpacking.paperStep b → a ≡ b
+unfolding stepBack
+step-one = tells-apart unpacking.paperStep stepBack undone
+  where
+    undone : (r : RecordStep) → stepBack (unpacking.paperStep r) ≡ r
+    undone (step.Taken r) = refl
+    undone (step.PassedOver r) = ap step.PassedOver (number-names r)
+    undone (step.Broken r) = ap step.Broken (number-names r)
+    undone step.End = refl

@@ -1,0 +1,125 @@
+-- Each public call is settled, by one law: its contract says one fact, and the fact leaves one outcome. Assumes nothing.
+use mathlib.Core.Path.{_≡_, refl, sym, _∙_}
+use Prim.Native.Nat.{ℕ}
+use mathlib.Core.List.{List}
+use Rattle.obu.specs.Unit.{flat}
+use Rattle.obu.specs.declared.Obu.{Obu}
+use Rattle.packetizer.specs.Plan.{flatPlan}
+use Rattle.packetizer.specs.declared.PacketMetadata.{PacketMetadata}
+use Rattle.aggregation.specs.Header.{headerOf}
+use Rattle.aggregation.specs.Flat.{obusIn, packetsIn}
+use Rattle.aggregation.specs.Paper.{paper}
+use Rattle.aggregation.specs.declared.HeaderAnswer.{HeaderAnswer}
+use Rattle.aggregation.proofs.Headers.{alike}
+use Rattle.leb128.proofs.read_leb128 as readLeb128
+use Rattle.obu.proofs.parse_obus as parseObus
+use Rattle.packetizer.proofs.plan_unit as planUnit
+use Rattle.aggregation.proofs.get_aggregation_header as getAggregationHeader
+use Rattle.aggregation.proofs.header_of as headerOf
+use Rattle.payloader.proofs.payload as payload
+use Rattle.element.proofs.element as element
+use Rattle.receiver.proofs.receive as receive
+use Rattle.train.proofs.read_head as readHead
+use Rattle.train.proofs.read_length as readLength
+use Rattle.train.proofs.read_record as readRecord
+use Rattle.train.proofs.record_head as recordHead
+use Rattle.packing.proofs.read_pack_head as readPackHead
+use Rattle.packing.proofs.read_unit_length as readUnitLength
+use Rattle.listing.proofs.unit_length as unitLength
+use Rattle.listing.proofs.read_input as readInput
+use Rattle.unpacking.proofs.fresh_state as freshState
+use Rattle.unpacking.proofs.read_stated as readStated
+use Rattle.settled.specs.Settled.{Settled, SettledBy, SamePart}
+use Rattle.settled.proofs.Law.{meet, settles}
+use Rattle.settled.proofs.Answers.{size-one, list-one, plan-one, header-one, payloads-one, receipt-one, head-one, stated-one, found-one, pack-head-one, unit-length-one, input-one}
+
+pub read-leb128 : Settled readLeb128.ended (λ M. readLeb128.clauses)
+read-leb128 =
+    settles readLeb128.ended _ _ _ (λ M 𝓤 H A mem run κs a. refl) (λ κs a x y p q. (size-one _ _ (meet p q), refl))
+
+pub parse-obus : Settled parseObus.ended (λ M. parseObus.clauses)
+parse-obus =
+    settles parseObus.ended _ _ _ (λ M 𝓤 H A mem run κs a. refl) (λ κs a x y p q. (
+      list-one _ _ (meet (p .0) (q .0)),
+      λ i. (tt, (meet (p .1) (q .1) i, tt)),
+    ))
+
+pub plan-unit : Settled planUnit.ended (λ M. planUnit.clauses)
+plan-unit =
+    settles planUnit.ended _ _ _ (λ M 𝓤 H A mem run κs a. refl) (λ κs a x y p q. (
+      plan-one _ _ (meet (p .0) (q .0)),
+      λ i. (tt, (tt, (meet (p .1) (q .1) i, (meet (p .2) (q .2) i, tt)))),
+    ))
+
+pub get-aggregation-header : Settled getAggregationHeader.ended (λ M. getAggregationHeader.clauses)
+get-aggregation-header =
+    settles getAggregationHeader.ended _ _ _ (λ M 𝓤 H A mem run κs a. refl) (λ κs a x y p q. (header-one _ _ (meet p q), refl))
+
+pub header-of : Settled headerOf.ended (λ M. headerOf.clauses)
+header-of =
+    settles headerOf.ended _ _ _ (λ M 𝓤 H A mem run κs a. refl) (λ κs a x y p q. (header-one _ _ (meet p q), refl))
+
+pub payloads : Settled payload.ended (λ M. payload.clauses)
+payloads =
+    settles payload.ended _ _ _ (λ M 𝓤 H A mem run κs a. refl) (λ κs a x y p q. (
+      payloads-one _ _ (meet (p .0) (q .0)),
+      λ i. (tt, (tt, (meet (p .1) (q .1) i, (meet (p .2) (q .2) i, (meet (p .3) (q .3) i, tt))))),
+    ))
+
+-- the header call in its two forms: the same records, the same answer
+pub same-header : (a b : HeaderAnswer) (os : List Obu) (ps : List PacketMetadata) (k : ℕ)
+    → paper a ≡ headerOf (obusIn (flat os)) (packetsIn (flatPlan ps)) k → paper b ≡ headerOf os ps k → a ≡ b
+same-header a b os ps k e f = header-one a b (e ∙ alike os ps k ∙ sym f)
+
+-- bytes at a place
+pub element-of : SettledBy element.ended (λ κs. SamePart) (λ M. element.clauses)
+element-of =
+    settles element.ended _ _ _ (λ M 𝓤 H A mem run κs a. refl) (λ κs a x y p q. ((meet (p .0) (q .0), meet (p .1) (q .1)), refl))
+
+pub received : Settled receive.ended (λ M. receive.clauses)
+received =
+    settles receive.ended _ _ _ (λ M 𝓤 H A mem run κs a. refl) (λ κs a x y p q. (
+      receipt-one _ _ (meet (p .0) (q .0)),
+      λ i. (tt, (tt, (tt, (meet (p .1) (q .1) i, (meet (p .2) (q .2) i, tt))))),
+    ))
+
+-- ---- trains
+
+pub read-head : Settled readHead.ended (λ M. readHead.clauses)
+read-head = settles readHead.ended _ _ _ (λ M 𝓤 H A mem run κs a. refl) (λ κs a x y p q. (head-one _ _ (meet p q), refl))
+
+pub read-length : Settled readLength.ended (λ M. readLength.clauses)
+read-length =
+    settles readLength.ended _ _ _ (λ M 𝓤 H A mem run κs a. refl) (λ κs a x y p q. (stated-one _ _ (meet p q), refl))
+
+pub read-record : Settled readRecord.ended (λ M. readRecord.clauses)
+read-record =
+    settles readRecord.ended _ _ _ (λ M 𝓤 H A mem run κs a. refl) (λ κs a x y p q. (found-one _ _ (meet p q), refl))
+
+pub record-head : Settled recordHead.ended (λ M. recordHead.clauses)
+record-head = settles recordHead.ended _ _ _ (λ M 𝓤 H A mem run κs a. refl) (λ κs a x y p q. (meet p q, refl))
+
+-- ---- the programs' steps
+
+pub read-pack-head : Settled readPackHead.ended (λ M. readPackHead.clauses)
+read-pack-head =
+    settles readPackHead.ended _ _ _ (λ M 𝓤 H A mem run κs a. refl) (λ κs a x y p q. (pack-head-one _ _ (meet p q), refl))
+
+pub read-unit-length : Settled readUnitLength.ended (λ M. readUnitLength.clauses)
+read-unit-length =
+    settles readUnitLength.ended _ _ _ (λ M 𝓤 H A mem run κs a. refl) (λ κs a x y p q. (unit-length-one _ _ (meet p q), refl))
+
+pub unit-length : Settled unitLength.ended (λ M. unitLength.clauses)
+unit-length =
+    settles unitLength.ended _ _ _ (λ M 𝓤 H A mem run κs a. refl) (λ κs a x y p q. (meet (p .0) (q .0), refl))
+
+pub read-input : Settled readInput.ended (λ M. readInput.clauses)
+read-input =
+    settles readInput.ended _ _ _ (λ M 𝓤 H A mem run κs a. refl) (λ κs a x y p q. (input-one _ _ (meet p q), refl))
+
+pub fresh-state : Settled freshState.ended (λ M. freshState.clauses)
+fresh-state = settles freshState.ended _ _ _ (λ M 𝓤 H A mem run κs a. refl) (λ κs a x y p q. (meet p q, refl))
+
+pub read-stated : Settled readStated.ended (λ M. readStated.clauses)
+read-stated =
+    settles readStated.ended _ _ _ (λ M 𝓤 H A mem run κs a. refl) (λ κs a x y p q. (stated-one _ _ (meet (p .0) (q .0)), refl))

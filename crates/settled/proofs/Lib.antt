@@ -1,0 +1,4 @@
+-- Each call's theorem, and what it stands on.
+pub mod Law
+pub mod Answers
+pub mod Calls

@@ -1,0 +1,44 @@
+-- `unpack` on some trains; computed. Assumes nothing.
+use mathlib.Core.Path.{_≡_, refl}
+use Prim.Native.Nat.{ℕ}
+use mathlib.Core.List.{List, [], _∷_, map}
+use Rattle.leb128.specs.Field.{fieldIn, encodeIn}
+use Rattle.obu.specs.Front.{frontOf, headed}
+use Rattle.obu.specs.Wire.{wholeOf, wire}
+use Rattle.element.specs.Elements.{elementAt, untilEnd, exactly, counting, elementsOf, payloadElements}
+use Rattle.train.specs.Bytes.{valueAfter}
+use Rattle.train.specs.Train.{lengthOf, bodyOf, recordsFrom, headOf}
+use Rattle.receiver.specs.Joining.{isAhead, isInStep, joined, finished, left, handed, keptOpen, next, out}
+use Rattle.receiver.specs.Handing.{wires}
+use Rattle.receiver.specs.Call.{taken}
+use Rattle.unpacking.specs.Unpack.{unpackedFrom, unpackOf}
+
+-- an OBU in two packets and one by itself, over the end of the numbers; the first packet lost; the second before the first; a packet with
+-- N and Z passed over; a cut record at the end; a record of length 2 between them; no record; another version; nothing
+trains : List (List ℕ)
+trains =
+    (1 ∷ 0 ∷ 4 ∷ 0xff ∷ 0xff ∷ 0x58 ∷ 8 ∷ 0 ∷ 4 ∷ 0 ∷ 0 ∷ 0x90 ∷ 0x7f ∷ 0 ∷ 4 ∷ 0 ∷ 1 ∷ 0x10 ∷ 0x30 ∷ [])
+    ∷ (1 ∷ 0 ∷ 4 ∷ 0 ∷ 0 ∷ 0x90 ∷ 0x7f ∷ 0 ∷ 4 ∷ 0 ∷ 1 ∷ 0x10 ∷ 0x30 ∷ [])
+    ∷ (1 ∷ 0 ∷ 4 ∷ 0 ∷ 0 ∷ 0x90 ∷ 0x7f ∷ 0 ∷ 4 ∷ 0xff ∷ 0xff ∷ 0x58 ∷ 8 ∷ 0 ∷ 4 ∷ 0 ∷ 1 ∷ 0x10 ∷ 0x30 ∷ [])
+    ∷ (1 ∷ 0 ∷ 4 ∷ 0 ∷ 0 ∷ 0x58 ∷ 8 ∷ 0 ∷ 4 ∷ 0 ∷ 1 ∷ 0x98 ∷ 0x7f ∷ 0 ∷ 4 ∷ 0 ∷ 1 ∷ 0x90 ∷ 0x7f ∷ [])
+    ∷ (1 ∷ 0 ∷ 4 ∷ 0 ∷ 1 ∷ 0x10 ∷ 0x30 ∷ 0 ∷ 4 ∷ 0 ∷ 2 ∷ 0x10 ∷ [])
+    ∷ (1 ∷ 0 ∷ 4 ∷ 0 ∷ 1 ∷ 0x10 ∷ 0x30 ∷ 0 ∷ 2 ∷ 0 ∷ 2 ∷ 0 ∷ 4 ∷ 0 ∷ 2 ∷ 0x10 ∷ 0x30 ∷ [])
+    ∷ (1 ∷ [])
+    ∷ (2 ∷ 0 ∷ 4 ∷ 0 ∷ 1 ∷ 0x10 ∷ 0x30 ∷ [])
+    ∷ []
+    ∷ []
+
+unpacked :
+    map unpackOf trains
+    ≡ (0x0a ∷ 1 ∷ 0x7f ∷ 0x32 ∷ 0 ∷ [])
+    ∷ (0x32 ∷ 0 ∷ [])
+    ∷ (0x32 ∷ 0 ∷ [])
+    ∷ (0x0a ∷ 1 ∷ 0x7f ∷ [])
+    ∷ (0x32 ∷ 0 ∷ [])
+    ∷ (0x32 ∷ 0 ∷ [])
+    ∷ []
+    ∷ []
+    ∷ []
+    ∷ []
+unfolding trains headOf recordsFrom lengthOf bodyOf valueAfter unpackedFrom taken isAhead isInStep joined finished left handed keptOpen next out wires wire wholeOf frontOf headed fieldIn encodeIn elementAt untilEnd exactly counting elementsOf payloadElements
+unpacked = refl

@@ -1,0 +1,3 @@
+pub mod Unpack
+pub mod Paper
+pub mod Run
