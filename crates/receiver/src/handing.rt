@@ -168,8 +168,8 @@ fn finish_obu(
     }
 }
 
-// Elements `from` up to `to`, one after the other.
-fn hand_each(
+// Elements `from` up to `to`, each finishing an OBU, the first with `joined` bytes of the store in front: counted, and written where told to.
+fn hand_out(
     payload: &[u8],
     cursor: usize,
     from: usize,
@@ -220,8 +220,8 @@ fn hand_each(
     HandedOut::Bytes(bytes)
 }
 
-// Elements `from` up to `to`, each finishing an OBU, the first with `joined` bytes of the store in front: counted, and written where told to.
-pub fn hand_out(
+// How many bytes go out for them. Most packets of a long OBU finish none.
+pub fn count_out(
     payload: &[u8],
     cursor: usize,
     from: usize,
@@ -229,17 +229,37 @@ pub fn hand_out(
     store: &[u8],
     joined: usize,
     out: &mut [u8],
-    write: bool,
 ) -> HandedOut
     requires { ⌜ (payloadElements (now payload) ≡ given (partsOf (now payload))) × (cursor ≡ cursorOf (partsOf (now payload)) from)
         × (from ≤ length (partsOf (now payload))) × (to ≤ length (partsOf (now payload)))
         × (joined ≤ length (now store)) × (joined ≤ fragmentLimit) ⌝ }
-    requires { ⌜ (write ≡ true → RoomAt (length (now out)) 0 (wires (between (now store) joined (now payload) from to))) ⌝ }
     ensures { λ r. ⌜ (paperHanded r ≡ counted (wires (between (now (store .entry)) joined (now (payload .entry)) from to)))
-        × (now (out .exit) ≡ cond write (putFirst (now (out .entry)) (wires (between (now (store .entry)) joined (now (payload .entry)) from to))) (now (out .entry))) ⌝ }
+        × (now (out .exit) ≡ now (out .entry)) ⌝ }
 {
     if to <= from {
         return HandedOut::Bytes(0);
     }
-    hand_each(payload, cursor, from, to, store, joined, out, write)
+    hand_out(payload, cursor, from, to, store, joined, out, false)
+}
+
+// Writes them first into the output.
+pub fn write_out(
+    payload: &[u8],
+    cursor: usize,
+    from: usize,
+    to: usize,
+    store: &[u8],
+    joined: usize,
+    out: &mut [u8],
+)
+    requires { ⌜ (payloadElements (now payload) ≡ given (partsOf (now payload))) × (cursor ≡ cursorOf (partsOf (now payload)) from)
+        × (from ≤ length (partsOf (now payload))) × (to ≤ length (partsOf (now payload)))
+        × (joined ≤ length (now store)) × (joined ≤ fragmentLimit) ⌝ }
+    requires { ⌜ RoomAt (length (now out)) 0 (wires (between (now store) joined (now payload) from to)) ⌝ }
+    ensures { λ _. ⌜ now (out .exit) ≡ putFirst (now (out .entry)) (wires (between (now (store .entry)) joined (now (payload .entry)) from to)) ⌝ }
+{
+    if to <= from {
+        return;
+    }
+    hand_out(payload, cursor, from, to, store, joined, out, true);
 }

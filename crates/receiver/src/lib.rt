@@ -195,7 +195,7 @@ fn take_packet(
     let from = thrown_away(z, joined);
     let cursor = first_cursor(from, next);
     let to = finished_end(y, n);
-    match handing::hand_out(payload, cursor, from, to, store, joined, out, false) {
+    match handing::count_out(payload, cursor, from, to, store, joined, out) {
         HandedOut::Refused(refusal) => Receipt::Refused(refusal),
         HandedOut::Bytes(bytes) => {
             let left = left_open(payload, y, from, n, joined);
@@ -209,7 +209,7 @@ fn take_packet(
             if bytes > out.len() {
                 return Receipt::Refused(Refusal::OutputTooShort);
             }
-            handing::hand_out(payload, cursor, from, to, store, joined, out, true);
+            handing::write_out(payload, cursor, from, to, store, joined, out);
             handing::copy(store, left.kept, payload, left.start, left.size);
             Receipt::Received(Received {
                 state: State {
