@@ -7,7 +7,7 @@ use native.Mathlib.Omega.{arith}
 use mathlib.Core.Bool.{Bool, true, false, cond}
 use mathlib.Core.List.{List, [], _∷_, _++_, append-nil, append-assoc, flatMap}
 use lib.ListN.{length, getD, take, drop, set, length-append, length-drop}
-use lib.Seq.{take-nil, take-all, take-suc, length-take-le, getD-drop, take-at, drop-append-add, drop-drop, sets, sets-eq}
+use lib.Seq.{take-nil, take-all, take-suc, take-add, length-take-le, getD-drop, take-at, drop-append-add, drop-drop, sets, sets-eq}
 use Rattle.base.specs.Lists.{replaced, front, keep, All}
 use Rattle.base.proofs.Tests.{by-cond}
 
@@ -45,6 +45,17 @@ module _ {A : Type 0} where
       let k : i < length (drop start s) = omega (arith, length-drop start s) in
       let n : length (take i (drop start s)) ≡ i = length-take-le i (drop start s) (omega arith) in
       rw (add-one i, take-suc (drop start s) i d k, getD-drop start s i d, sets-append l at (take i (drop start s)) (getD s (start + i) d ∷ []), n)
+
+  -- n bytes stored first and read again
+  pub stored-read : (l a : List A) (n : ℕ) → length a ≡ n → n ≤ length l → take n (drop 0 (sets l 0 a)) ≡ a
+  stored-read l a n e h = rw (sets-eq a l 0 (omega arith)) (take-at a (drop (0 + length a) l) n e)
+
+  -- a turn of the loop that copies blocks
+  pub copy-on : (l s : List A) (at start i n : ℕ) → start + i ≤ length s
+      → sets (sets l at (take i (drop start s))) (at + i) (take n (drop (start + i) s)) ≡ sets l at (take (i + n) (drop start s))
+  copy-on l s at start i n h =
+      let k : length (take i (drop start s)) ≡ i = length-take-le i (drop start s) (omega (arith, length-drop start s)) in
+      rw (take-add i n (drop start s), drop-drop i start s, sets-append l at (take i (drop start s)) (take n (drop (start + i) s)), k)
 
   pub keep-yes : (test : A → Bool) (a : A) (l : List A) → test a ≡ true → keep test (a ∷ l) ≡ a ∷ keep test l
   unfolding keep

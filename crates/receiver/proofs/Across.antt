@@ -36,6 +36,12 @@ module _ (store payload : List ℕ) (kept start size : ℕ) (h : kept ≤ length
   pub across-length : length (across store kept payload start size) ≡ kept + size
   across-length = length-append (take kept store) (take size (drop start payload)) ∙ ap₂ _+_ kept-length part-length
 
+  -- with nothing of the store it is a part of the payload
+  pub across-none : (e : ℕ) → kept ≡ 0 → e ≡ start + size → across store kept payload start size ≡ take (e - start) (drop start payload)
+  across-none e k m =
+      let n : e - start ≡ size = omega arith in
+      rw (n, k)
+
   -- ---- copied from byte `skip` on
 
   drop-in-store : (skip : ℕ) → skip ≤ kept

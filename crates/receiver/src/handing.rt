@@ -70,8 +70,8 @@ fn copy_across(to: &mut [u8], at: usize, store: &[u8], payload: &[u8], f: Fragme
     }
 }
 
-// The OBU of exactly a fragment's bytes, judged by the first of them.
-fn judge(store: &[u8], payload: &[u8], f: Fragment) -> ObuRead
+// The OBU of exactly a fragment's bytes, judged by the first of them, which are put together in an array.
+fn judge_across(store: &[u8], payload: &[u8], f: Fragment) -> ObuRead
     requires { ⌜ (f .kept ≤ length (now store)) × (f .start + f .size ≤ length (now payload)) × (1 ≤ f .size) ⌝ }
     ensures { λ r. ⌜ paperWhole r ≡ wholeOf (fragmentOf (now (store .entry)) (now (payload .entry)) f) ⌝ }
 {
@@ -85,6 +85,19 @@ fn judge(store: &[u8], payload: &[u8], f: Fragment) -> ObuRead
     copy(&mut head, a, payload, start, b);
     let n = a + b;
     obu::whole_obu(&head[..n], kept + size)
+}
+
+// The OBU of exactly a fragment's bytes: those of the payload alone are judged where they stand.
+fn judge(store: &[u8], payload: &[u8], f: Fragment) -> ObuRead
+    requires { ⌜ (f .kept ≤ length (now store)) × (f .start + f .size ≤ length (now payload)) × (1 ≤ f .size) ⌝ }
+    ensures { λ r. ⌜ paperWhole r ≡ wholeOf (fragmentOf (now (store .entry)) (now (payload .entry)) f) ⌝ }
+{
+    if f.kept == 0 {
+        let start = f.start;
+        let end = start + f.size;
+        return obu::whole_obu(&payload[start..end], f.size);
+    }
+    judge_across(store, payload, f)
 }
 
 // Writes an OBU's header byte with bit 1 set and its extension byte, and returns the cursor after them.
@@ -156,7 +169,7 @@ fn finish_obu(
 }
 
 // Elements `from` up to `to`, each finishing an OBU, the first with `joined` bytes of the store in front: counted, and written where told to.
-pub fn hand_out(
+fn hand_out(
     payload: &[u8],
     cursor: usize,
     from: usize,
@@ -205,4 +218,48 @@ pub fn hand_out(
         }
     }
     HandedOut::Bytes(bytes)
+}
+
+// How many bytes go out for them. Most packets of a long OBU finish none.
+pub fn count_out(
+    payload: &[u8],
+    cursor: usize,
+    from: usize,
+    to: usize,
+    store: &[u8],
+    joined: usize,
+    out: &mut [u8],
+) -> HandedOut
+    requires { ⌜ (payloadElements (now payload) ≡ given (partsOf (now payload))) × (cursor ≡ cursorOf (partsOf (now payload)) from)
+        × (from ≤ length (partsOf (now payload))) × (to ≤ length (partsOf (now payload)))
+        × (joined ≤ length (now store)) × (joined ≤ fragmentLimit) ⌝ }
+    ensures { λ r. ⌜ (paperHanded r ≡ counted (wires (between (now (store .entry)) joined (now (payload .entry)) from to)))
+        × (now (out .exit) ≡ now (out .entry)) ⌝ }
+{
+    if to <= from {
+        return HandedOut::Bytes(0);
+    }
+    hand_out(payload, cursor, from, to, store, joined, out, false)
+}
+
+// Writes them first into the output.
+pub fn write_out(
+    payload: &[u8],
+    cursor: usize,
+    from: usize,
+    to: usize,
+    store: &[u8],
+    joined: usize,
+    out: &mut [u8],
+)
+    requires { ⌜ (payloadElements (now payload) ≡ given (partsOf (now payload))) × (cursor ≡ cursorOf (partsOf (now payload)) from)
+        × (from ≤ length (partsOf (now payload))) × (to ≤ length (partsOf (now payload)))
+        × (joined ≤ length (now store)) × (joined ≤ fragmentLimit) ⌝ }
+    requires { ⌜ RoomAt (length (now out)) 0 (wires (between (now store) joined (now payload) from to)) ⌝ }
+    ensures { λ _. ⌜ now (out .exit) ≡ putFirst (now (out .entry)) (wires (between (now (store .entry)) joined (now (payload .entry)) from to)) ⌝ }
+{
+    if to <= from {
+        return;
+    }
+    hand_out(payload, cursor, from, to, store, joined, out, true);
 }

@@ -1,83 +1,53 @@
-use mathlib.Core.Path.{_≡_, sym, ap, _∙_}
-use Prim.Native.Nat.{_+_}
+use mathlib.Core.Path.{_≡_, refl, ap, _∙_}
+use Prim.Native.Nat.{_+_, _-_}
 use native.Mathlib.Omega.{arith}
-use lib.ListN.{length, take}
-use borrow.Author.Needs.{needs}
+use lib.ListN.{take, drop}
 use Rattle.obu.specs.Front.{headBytes}
 use Rattle.receiver.specs.Inside.{across}
-use Rattle.receiver.proofs.Across.{head-copied, head-same, across-length}
+use Rattle.receiver.proofs.Across.{across-none, across-length}
+use borrow.Author.Needs.{needs}
 use Rattle.receiver.proofs.handing.judge.Statement.{statement}
 use Rattle.receiver.proofs.handing.judge.Tie as tie
 
--- the bytes that are judged
-first : (c : tie.After-head5) → take (c .before .before .before .before .before .before .before .before .smaller .result + c .before .before .before .before .before .before .before .smaller2 .result) (c .before .before .copy2 .last .0)
-    ≡ across (c .before .before .before .before .before .before .before .before .before .before .before .args .store .now) (c .before .before .before .before .before .before .before .before .smaller .result) (c .before .before .before .before .before .before .before .before .before .before .before .args .payload .now) (c .before .before .before .before .before .before .before .before .before .before .before .args .f .start) (c .before .before .before .before .before .before .before .smaller2 .result)
-first c =
-    let a = c .before .before .before .before .before .before .before .before .before .before .before .args in
-    head-copied (a .store .now) (a .payload .now) (a .f .kept) (a .f .start) (a .f .size) (c .before .before .before .before .before .before .before .before .before .before .before .pre .0) (c .before .before .before .before .before .before .before .before .before .before .before .pre .1) _ _ (c .before .before .before .before .before .before .before .before .smaller .ensures) (c .before .before .before .before .before .before .before .smaller2 .ensures) _ _ _ (c .before .before .before .before .before .copy .ensures) (c .before .before .copy2 .ensures)
+add-end : tie.Need-add-end
+add-end c = search needs
 
-count : (c : tie.After-head5) → length (take (c .before .before .before .before .before .before .before .before .smaller .result + c .before .before .before .before .before .before .before .smaller2 .result) (c .before .before .copy2 .last .0)) ≡ c .before .before .before .before .before .before .before .before .smaller .result + c .before .before .before .before .before .before .before .smaller2 .result
-count c =
-    let a = c .before .before .before .before .before .before .before .before .before .before .before .args in
-    ap length (first c) ∙ across-length (a .store .now) (a .payload .now) (c .before .before .before .before .before .before .before .before .smaller .result) (a .f .start) (c .before .before .before .before .before .before .before .smaller2 .result) (omega arith) (omega arith)
+sub-whole-obu : tie.Need-sub-whole-obu
+sub-whole-obu c = search needs
 
-smaller-requires : tie.Need-smaller-requires
-smaller-requires c κs = search needs
+part-whole-obu-start : tie.Need-part-whole-obu-start
+part-whole-obu-start c = search needs
 
-sub-smaller : tie.Need-sub-smaller
-sub-smaller c = search needs
-
-smaller-requires-2 : tie.Need-smaller-requires-2
-smaller-requires-2 c κs = search needs
-
-slice-aggregate-copy : tie.Need-slice-aggregate-copy
-slice-aggregate-copy c = search needs
-
-copy-requires : tie.Need-copy-requires
-copy-requires c κs = search needs
-
-slice-aggregate-copy-2 : tie.Need-slice-aggregate-copy-2
-slice-aggregate-copy-2 c = search needs
-
-copy-requires-2 : tie.Need-copy-requires-2
-copy-requires-2 c κs = search needs
-
-add-n : tie.Need-add-n
-add-n c = search needs
-
-array-share-prefix-head : tie.Need-array-share-prefix-head
-array-share-prefix-head c = search needs
-
-slice-aggregate-whole-obu : tie.Need-slice-aggregate-whole-obu
-slice-aggregate-whole-obu c = sym (count c)
-
-add-whole-obu : tie.Need-add-whole-obu
-add-whole-obu c = search needs
+part-whole-obu-end : tie.Need-part-whole-obu-end
+part-whole-obu-end c = search needs
 
 whole-obu-requires : tie.Need-whole-obu-requires
-whole-obu-requires c κs = let n = count c in omega arith
+whole-obu-requires c κs = search needs
 
 returns : tie.Need-returns
 returns c =
-    let a = c .before .before .before .before .before .before .before .before .before .before .before .before .args in
+    let a = c .before .before .before .before .before .before .before .args in
+    let same : across (a .store .now) (a .f .kept) (a .payload .now) (a .f .start) (a .f .size) ≡ take (a .f .start + a .f .size - a .f .start) (drop (a .f .start) (a .payload .now))
+    = across-none (a .store .now) (a .payload .now) (a .f .kept) (a .f .start) (a .f .size) (c .before .before .before .before .before .before .before .pre .0) (c .before .before .before .before .before .before .before .pre .1) (a .f .start + a .f .size) (c .before .before .before .if1 .taken) refl in
     c .whole-obu .ensures (across (a .store .now) (a .f .kept) (a .payload .now) (a .f .start) (a .f .size))
-    (head-same (a .store .now) (a .payload .now) (a .f .kept) (a .f .start) (a .f .size) (c .before .before .before .before .before .before .before .before .before .before .before .before .pre .0) (c .before .before .before .before .before .before .before .before .before .before .before .before .pre .1) _ _ (c .before .before .before .before .before .before .before .before .before .smaller .ensures) (c .before .before .before .before .before .before .before .before .smaller2 .ensures) ∙ ap (take headBytes) (sym (first (c .before))))
-    (across-length (a .store .now) (a .payload .now) (a .f .kept) (a .f .start) (a .f .size) (c .before .before .before .before .before .before .before .before .before .before .before .before .pre .0) (c .before .before .before .before .before .before .before .before .before .before .before .before .pre .1))
+    (ap (take headBytes) same)
+    (across-length (a .store .now) (a .payload .now) (a .f .kept) (a .f .start) (a .f .size) (c .before .before .before .before .before .before .before .pre .0) (c .before .before .before .before .before .before .before .pre .1) ∙ omega arith)
+
+judge-across-requires : tie.Need-judge-across-requires
+judge-across-requires c κs = search needs
+
+returns-2 : tie.Need-returns-2
+returns-2 c = search needs
 
 pub judge-spec : {M : Type 1} → statement M
 judge-spec =
     tie.close
     (tie.spec
-    smaller-requires
-    sub-smaller
-    smaller-requires-2
-    slice-aggregate-copy
-    copy-requires
-    slice-aggregate-copy-2
-    copy-requires-2
-    add-n
-    array-share-prefix-head
-    slice-aggregate-whole-obu
-    add-whole-obu
+    add-end
+    sub-whole-obu
+    part-whole-obu-start
+    part-whole-obu-end
     whole-obu-requires
-    returns)
+    returns
+    judge-across-requires
+    returns-2)
