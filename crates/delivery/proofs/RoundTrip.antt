@@ -27,6 +27,7 @@ use Rattle.packing.specs.Pack.{packVersion, headWidth, Head, found, headIn, uni
 use Rattle.packing.specs.declared.PackHead.{PackHead}
 use Rattle.packing.proofs.Reading.{stated-within}
 use Rattle.packing.proofs.Units.{answer-is}
+use Rattle.packing.proofs.Runs.{numbered-append}
 use Rattle.train.specs.Bytes.{valueAfter, valueOf}
 use Rattle.train.specs.Train.{trainVersion, lengthWidth, Packet, Train, ended, trainOf as trainFile, trainIn, standing}
 use Rattle.train.proofs.Written.{AllFit, written-read}
@@ -75,11 +76,6 @@ module _ (mtu : ℕ) where
   units-good i (b ∷ l) zero = with-length i (b ∷ l) (lengthIn (b ∷ l)) refl (λ span. unitsFrom mtu (i + 1) l (span - 1)) (λ n. units-good (i + 1) l (n - 1))
 
 -- ---- lists
-
-numbered-append : (n : ℕ) (ps qs : List (List ℕ)) → numbered n (ps ++ qs) ≡ numbered n ps ++ numbered (numberAfter n ps) qs
-unfolding numbered numberAfter
-numbered-append n [] qs = refl
-numbered-append n (p ∷ ps) qs = ap (λ (l : List Packet). record { number = n; payload = p } ∷ l) (numbered-append (nextNumber n) ps qs)
 
 verdicts-right : (l m : List (Answer Taken)) → All (λ v. v ≡ takes) (verdicts (map callBy (l ++ m))) → All (λ v. v ≡ takes) (verdicts (map callBy m))
 verdicts-right [] m a = a

@@ -42,7 +42,7 @@ length-front (b ∷ l) = rw (short-front unitWidth (b ∷ l), take-take 3 3 l (o
 
 -- ---- the units, and their records
 
-numbered-append : (n : ℕ) (ps qs : List (List ℕ)) → numbered n (ps ++ qs) ≡ numbered n ps ++ numbered (numberAfter n ps) qs
+pub numbered-append : (n : ℕ) (ps qs : List (List ℕ)) → numbered n (ps ++ qs) ≡ numbered n ps ++ numbered (numberAfter n ps) qs
 unfolding numbered numberAfter
 numbered-append n [] qs = refl
 numbered-append n (p ∷ ps) qs = ap (λ (l : List Packet). record { number = n; payload = p } ∷ l) (numbered-append (nextNumber n) ps qs)
