@@ -1,7 +1,7 @@
-// What every other crate stands on: the refusals R1 to R23 by name, a record of five numbers stored in a lent flat list, and
-// bytes copied.
+// What every other crate stands on: the refusals R1 to R23 by name, a record of five numbers stored in a lent flat list, the
+// smaller of two numbers, and bytes copied.
 ghost use mathlib.Core.Path.{_≡_};
-ghost use Prim.Native.Nat.{_+_, _≤_};
+ghost use Prim.Native.Nat.{_+_, _≤_, min};
 ghost use mathlib.Core.List.{[], _∷_};
 ghost use lib.ListN.{length, take, drop};
 ghost use lib.Seq.{sets};
@@ -74,6 +74,13 @@ pub fn put_five(list: &mut [u32], at: usize, a: u32, b: u32, c: u32, d: u32, e: 
     list[at + 2] = c;
     list[at + 3] = d;
     list[at + 4] = e;
+}
+
+// The smaller of two numbers.
+pub fn smaller(a: usize, b: usize) -> usize
+    ensures { λ r. ⌜ r ≡ min a b ⌝ }
+{
+    if a < b { a } else { b }
 }
 
 // Copies the n bytes of `from` at `start` to the cursor `at` of `to`, and returns the cursor after them.
