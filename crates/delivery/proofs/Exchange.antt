@@ -24,7 +24,7 @@ use Rattle.lawful.specs.Train.{NonEmpty}
 use Rattle.lawful.specs.Payload.{CarryAll}
 use Rattle.lawful.specs.Lawful.{WellFormed}
 use Rattle.delivery.specs.Arrivals.{number, NearTo, Near}
-use Rattle.delivery.specs.Calls.{Arrival, packetsIn, Call, stateAfter, bytesBy, calls, handedOut, verdicts}
+use Rattle.delivery.specs.Calls.{Arrival, packetsIn, Call, stateAfter, bytesBy, Verdict, takes, refuses, takenOr14, calls, handedOut, verdicts}
 use Rattle.delivery.proofs.Open.{noted, Small}
 use Rattle.delivery.proofs.Numbers.{after, not-ahead, is-ahead, is-in-step}
 use Rattle.delivery.proofs.Follow.{noPacket, joins, follow}
@@ -48,7 +48,7 @@ place-at mtu (b ∷ payloads) (p ∷ run) c f s (suc a) l = place-at mtu payload
 
 pub record Agrees (cs : List Call) (os : List (List ℕ)) (bs : List Bool) : Type 0 where
   pub out : handedOut cs ≡ flatMap wireBytes os
-  pub says : verdicts cs ≡ map (λ (b : Bool). cond b 0 14) bs
+  pub says : verdicts cs ≡ map takenOr14 bs
 
 module _ (payloads : List (List ℕ)) (first : ℕ) (run : List Packet) (size mtu : ℕ) (limit : size ≤ fragmentLimit) (places : (a : ℕ) → a < length payloads → Place mtu (getD payloads a []) (getD run a noPacket)) where
   -- a call by what comes of it
@@ -73,7 +73,7 @@ module _ (payloads : List (List ℕ)) (first : ℕ) (run : List Packet) (size mt
     late os bs e g =
         let x : calls payloads first (stateOf h) store (a ∷ rest) ≡ by-outcome (stateOf h) store a rest (refused 14 0) =
         ap (by-outcome (stateOf h) store a rest) (call-late h n payload store (a .output) s p (places (a .packet) l .read) e) in
-        record { out = ap handedOut x ∙ g .out; says = ap verdicts x ∙ ap (λ (v : List ℕ). 14 ∷ v) (g .says) }
+        record { out = ap handedOut x ∙ g .out; says = ap verdicts x ∙ ap (λ (v : List Verdict). refuses 14 ∷ v) (g .says) }
 
     -- it may join o
     module _ (o : List ℕ) where
@@ -96,7 +96,7 @@ module _ (payloads : List (List ℕ)) (first : ℕ) (run : List Packet) (size mt
           let r = g (record { stands = held-again held store; within = rw m (omega arith); limited = omega arith }) (rw m sp) in
           record {
             out = ap handedOut x ∙ ap₂ _++_ (take-append-seam b (drop (length b) (a .output))) (r .out) ∙ sym (flatMap-append wireBytes (handed o p) os);
-            says = ap verdicts x ∙ ap (λ (v : List ℕ). 0 ∷ v) (r .says);
+            says = ap verdicts x ∙ ap (λ (v : List Verdict). takes ∷ v) (r .says);
           }
 
   -- the calls after packet m, with the fragment o open

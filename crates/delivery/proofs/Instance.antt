@@ -14,7 +14,7 @@ use Rattle.receiver.specs.Handing.{wires}
 use Rattle.receiver.specs.Call.{taken, outcome, stateOf}
 use Rattle.lawful.specs.Train.{obus, join}
 use Rattle.lawful.proofs.Rows.{example, payloads, lawful}
-use Rattle.delivery.specs.Calls.{Arrival, Call, calls, handedOut, verdicts}
+use Rattle.delivery.specs.Calls.{Arrival, Call, takes, refuses, calls, handedOut, verdicts}
 use Rattle.delivery.specs.Delivery.{Delivered}
 use Rattle.delivery.proofs.Theorem.{delivery}
 
@@ -37,7 +37,7 @@ out-is : handedOut made ≡ 0x32 ∷ 5 ∷ 0xa1 ∷ 0xa2 ∷ 0xa3 ∷ 0xa4 ∷ 0
 unfolding made store arrival arrivals payloads calls flatMap outcome taken payloadElements elementsOf counting untilEnd exactly elementAt fieldIn encodeIn isAhead isInStep joined finished left handed keptOpen next out wires wire wholeOf frontOf headed
 out-is = refl
 
-verdicts-are : verdicts made ≡ 0 ∷ 0 ∷ 0 ∷ 14 ∷ 0 ∷ 0 ∷ 14 ∷ []
+verdicts-are : verdicts made ≡ takes ∷ takes ∷ takes ∷ refuses 14 ∷ takes ∷ takes ∷ refuses 14 ∷ []
 unfolding made store arrival arrivals payloads calls flatMap outcome taken payloadElements elementsOf counting untilEnd exactly elementAt fieldIn encodeIn isAhead isInStep joined finished left handed keptOpen next out wires wire wholeOf frontOf headed
 verdicts-are = refl
 

@@ -14,5 +14,9 @@ pub mod UnitPackets
 pub mod UnitObus
 pub mod OneUnit
 pub mod UnitReadBack
+pub mod Places
 pub mod UnitsTheorem
 pub mod UnitsInstance
+pub mod Turns
+pub mod RoundTrip
+pub mod Trains

@@ -14,6 +14,7 @@ use Rattle.base.proofs.Tests.{by-cond}
 use Rattle.lawful.specs.Train.{Piece, cut, inner, final, packets, runOf, Portion, portion, obus, obusIn, whole}
 use Rattle.lawful.proofs.Reading.{carried-count}
 use Rattle.delivery.specs.Arrivals.{timely, NearTo, Near, inOrder}
+use Rattle.delivery.specs.Calls.{takes, takenOr14}
 use Rattle.delivery.specs.Delivery.{Delivered, NoLoss}
 use Rattle.delivery.proofs.Timely.{advances, advances-first}
 use Rattle.delivery.proofs.Theorem.{delivery}
@@ -38,7 +39,7 @@ unfolding inOrder
 all-near zero = tt
 all-near (suc n) = (omega arith, order-near (suc n) n 0 (omega arith))
 
-order-advances : (n m : ℕ) → All {A = ℕ} (λ v. v ≡ 0) (map (λ (b : Bool). cond b 0 14) (advances m (inOrder m n)))
+order-advances : (n m : ℕ) → All (λ v. v ≡ takes) (map takenOr14 (advances m (inOrder m n)))
 unfolding inOrder advances
 order-advances zero m = tt
 order-advances (suc n) m = rw (le-ltb m m (omega arith)) (refl, order-advances n (suc m))

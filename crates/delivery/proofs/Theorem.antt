@@ -15,7 +15,7 @@ use Rattle.lawful.specs.Lawful.{WellFormed}
 use Rattle.lawful.proofs.Reading.{carried-count}
 use Rattle.lawful.proofs.Trains.{run-full}
 use Rattle.delivery.specs.Arrivals.{timely}
-use Rattle.delivery.specs.Calls.{packetsIn, calls}
+use Rattle.delivery.specs.Calls.{packetsIn, takenOr14, calls}
 use Rattle.delivery.specs.Delivery.{Delivery}
 use Rattle.delivery.proofs.Walk.{walk-handed}
 use Rattle.delivery.proofs.Open.{noted, Small, walk-noted}
@@ -33,7 +33,7 @@ pub delivery : Delivery
 delivery t payloads first size mtu store arrivals l near sp =
     record {
       out = ap given (agrees .out ∙ ap (flatMap wireBytes) lost) ∙ sym (wires-given outs fine);
-      refusals = agrees .says ∙ ap (map (λ (b : Bool). cond b 0 14)) (advances-first r);
+      refusals = agrees .says ∙ ap (map takenOr14) (advances-first r);
     }
   where
     r : List ℕ

@@ -21,7 +21,7 @@ use Rattle.receiver.specs.Joining.{fresh, isAhead, isInStep, joined, finished, 
 use Rattle.receiver.specs.Handing.{wires}
 use Rattle.receiver.specs.Call.{taken, outcome, stateOf}
 use Rattle.delivery.specs.Arrivals.{Near}
-use Rattle.delivery.specs.Calls.{Arrival, packetsIn, Call, calls, handedOut, verdicts}
+use Rattle.delivery.specs.Calls.{Arrival, packetsIn, Call, takes, refuses, calls, handedOut, verdicts}
 use Rattle.delivery.specs.Units.{Sending, Accepted, payloadsSent, UnitsDelivered}
 use Rattle.delivery.proofs.UnitsTheorem.{units-delivery}
 
@@ -77,14 +77,14 @@ out-of : handedOut (made packets) ≡ 0x32 ∷ 5 ∷ 0xa1 ∷ 0xa2 ∷ 0xa3 ∷ 
 unfolding made store arrival arrivals packets calls flatMap outcome taken payloadElements elementsOf counting untilEnd exactly elementAt fieldIn encodeIn isAhead isInStep joined finished left handed keptOpen next out wires wire wholeOf frontOf headed
 out-of = refl
 
-verdicts-of : verdicts (made packets) ≡ 0 ∷ 0 ∷ 0 ∷ 14 ∷ 0 ∷ 0 ∷ 14 ∷ 0 ∷ []
+verdicts-of : verdicts (made packets) ≡ takes ∷ takes ∷ takes ∷ refuses 14 ∷ takes ∷ takes ∷ refuses 14 ∷ takes ∷ []
 unfolding made store arrival arrivals packets calls flatMap outcome taken payloadElements elementsOf counting untilEnd exactly elementAt fieldIn encodeIn isAhead isInStep joined finished left handed keptOpen next out wires wire wholeOf frontOf headed
 verdicts-of = refl
 
 out-is : handedOut (made (payloadsSent sendings)) ≡ 0x32 ∷ 5 ∷ 0xa1 ∷ 0xa2 ∷ 0xa3 ∷ 0xa4 ∷ 0xa5 ∷ 0x36 ∷ 8 ∷ 1 ∷ 0xc1 ∷ []
 out-is = ap (λ (ps : List (List ℕ)). handedOut (made ps)) payloads-are ∙ out-of
 
-verdicts-are : verdicts (made (payloadsSent sendings)) ≡ 0 ∷ 0 ∷ 0 ∷ 14 ∷ 0 ∷ 0 ∷ 14 ∷ 0 ∷ []
+verdicts-are : verdicts (made (payloadsSent sendings)) ≡ takes ∷ takes ∷ takes ∷ refuses 14 ∷ takes ∷ takes ∷ refuses 14 ∷ takes ∷ []
 verdicts-are = ap (λ (ps : List (List ℕ)). verdicts (made ps)) payloads-are ∙ verdicts-of
 
 -- every premise is met
@@ -125,7 +125,12 @@ fused-out : handedOut (calls ((0x50 ∷ 0x30 ∷ 0xa1 ∷ []) ∷ (0x90 ∷ 0xb2
 unfolding store arrival arrivals calls flatMap outcome taken payloadElements elementsOf counting untilEnd exactly elementAt fieldIn encodeIn isAhead isInStep joined finished left handed keptOpen next out wires wire wholeOf frontOf headed
 fused-out = refl
 
--- the works themselves
-own : flatMap (wireOf one) (obusOf one) ++ flatMap (wireOf other) (obusOf other) ≡ 0x32 ∷ 2 ∷ 0xa1 ∷ 0xa2 ∷ 0x32 ∷ 2 ∷ 0xb1 ∷ 0xb2 ∷ []
-unfolding one other flatMap keep fieldIn encodeIn headed frontOf scanFrom
-own = refl
+-- each work has one OBU, and what was handed out is neither
+works : map (wireOf one) (obusOf one) ++ map (wireOf other) (obusOf other) ≡ (0x32 ∷ 2 ∷ 0xa1 ∷ 0xa2 ∷ []) ∷ (0x32 ∷ 2 ∷ 0xb1 ∷ 0xb2 ∷ []) ∷ []
+unfolding one other keep fieldIn encodeIn headed frontOf scanFrom
+works = refl
+
+in-neither : All (λ (o : List ℕ). o ≡ 0x32 ∷ 2 ∷ 0xa1 ∷ 0xb2 ∷ [] → ⊥) (map (wireOf one) (obusOf one) ++ map (wireOf other) (obusOf other))
+in-neither =
+    subst (All (λ (o : List ℕ). o ≡ 0x32 ∷ 2 ∷ 0xa1 ∷ 0xb2 ∷ [] → ⊥)) (sym works)
+    ((λ e. omega (arith, ap (λ (l : List ℕ). getD l 3 0) e)), ((λ e. omega (arith, ap (λ (l : List ℕ). getD l 2 0) e)), tt))

@@ -1,9 +1,10 @@
 -- Demand 3 for units that the payload call packed (D3): a case of the theorem for lawful trains. Assumes nothing.
-use mathlib.Core.Path.{_≡_, refl, sym, ap, ap₂, _∙_}
+use mathlib.Core.Path.{_≡_, refl, sym, ap, ap₂, subst, _∙_}
 use Prim.Native.Nat.{ℕ, zero, suc, _+_, _≤_, _<_, min}
 use native.Mathlib.Omega.{arith}
 use mathlib.Core.List.{List, [], _∷_, _++_, map, flatMap}
-use mathlib.Core.Bool.{Bool, true}
+use mathlib.Core.Logic.{_⊎_, inl, inr}
+use mathlib.Core.Bool.{Bool, true, false}
 use lib.ListN.{length, getD, length-map}
 use Rattle.base.specs.Answers.{given}
 use Rattle.base.specs.Lists.{keep, All}
@@ -23,10 +24,11 @@ use Rattle.lawful.specs.Payload.{CarryAll}
 use Rattle.lawful.specs.Lawful.{Lawful, WellFormed}
 use Rattle.lawful.proofs.Reading.{carry-append}
 use Rattle.lawful.proofs.Trains.{closed-append, run-append, obus-append}
-use Rattle.delivery.specs.Arrivals.{timely, inOrder}
-use Rattle.delivery.specs.Calls.{Arrival, packetsIn}
+use Rattle.delivery.specs.Arrivals.{timely, firstTimely, inOrder}
+use Rattle.delivery.specs.Calls.{Arrival, packetsIn, takes, refuses, takenOr14}
 use Rattle.delivery.specs.Delivery.{Space, Delivered}
-use Rattle.delivery.specs.Units.{Sending, Accepted, payloadsSent, packetsOf, every, expected, UnitSpace, UnitsDelivery, UnitsNoLoss}
+use Rattle.delivery.specs.Units.{Sending, Accepted, payloadsSent, packetsOf, every, expected, UnitSpace, UnitsDelivery, UnitsOnly14, UnitsNoLoss}
+use Rattle.delivery.proofs.Places.{in-order-all}
 use Rattle.delivery.proofs.Theorem.{delivery}
 use Rattle.delivery.proofs.NoLoss.{no-loss}
 use Rattle.delivery.proofs.UnitParts.{sent-size}
@@ -135,6 +137,17 @@ units-delivery ss first size mtu store arrivals h near sp =
     delivery (trains ss) (payloadsSent ss) first (min size fragmentLimit) mtu store arrivals (units-lawful ss h) near (units-space ss size mtu store arrivals h sp) in
     record { out = given-same (d .out ∙ trains-through (timely (packetsIn arrivals)) 0 ss h); refusals = d .refusals }
 
+-- ---- no refusal but R14
+
+taken-or-14 : (bs : List Bool) → All (λ v. (v ≡ takes) ⊎ (v ≡ refuses 14)) (map takenOr14 bs)
+taken-or-14 [] = tt
+taken-or-14 (true ∷ bs) = (inl refl, taken-or-14 bs)
+taken-or-14 (false ∷ bs) = (inr refl, taken-or-14 bs)
+
+pub units-only-14 : UnitsOnly14
+units-only-14 ss first size mtu store arrivals h near sp =
+    subst (All (λ v. (v ≡ takes) ⊎ (v ≡ refuses 14))) (sym (units-delivery ss first size mtu store arrivals h near sp .refusals)) (taken-or-14 (firstTimely [] (packetsIn arrivals)))
+
 -- ---- no loss
 
 every-true : (ks : List ℕ) → every (λ k. true) ks ≡ true
@@ -146,23 +159,6 @@ keep-true : (f : ℕ → Bool) → ((i : ℕ) → f i ≡ true) → (l : List �
 unfolding keep
 keep-true f h [] = refl
 keep-true f h (i ∷ l) = rw (h i, keep-true f h l)
-
-next-order : (k n : ℕ) → inOrder (suc k) n ≡ map (λ (i : ℕ). suc i) (inOrder k n)
-unfolding inOrder
-next-order k zero = refl
-next-order k (suc n) = ap (λ (l : List ℕ). suc k ∷ l) (next-order (suc k) n)
-
-flatMap-map : (f : ℕ → List ℕ) (l : List ℕ) → flatMap f (map (λ (i : ℕ). suc i) l) ≡ flatMap (λ (i : ℕ). f (suc i)) l
-unfolding flatMap
-flatMap-map f [] = refl
-flatMap-map f (i ∷ l) = rw (flatMap-map f l)
-
-in-order-all : (f : Obu → List ℕ) (os : List Obu) → flatMap (λ (i : ℕ). f (getD os i noObu)) (inOrder 0 (length os)) ≡ flatMap f os
-unfolding flatMap inOrder
-in-order-all f [] = refl
-in-order-all f (o ∷ os) =
-    ap (λ (l : List ℕ). f o ++ l)
-    (ap (flatMap (λ (i : ℕ). f (getD (o ∷ os) i noObu))) (next-order 0 (length os)) ∙ flatMap-map (λ (i : ℕ). f (getD (o ∷ os) i noObu)) (inOrder 0 (length os)) ∙ in-order-all f os)
 
 expected-all : (k : ℕ) (ss : List Sending) → expected (λ n. true) k ss ≡ flatMap (λ (s : Sending). flatMap (wireOf (s .unit)) (obusOf (s .unit))) ss
 unfolding expected flatMap

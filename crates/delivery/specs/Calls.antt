@@ -1,6 +1,7 @@
 -- Receive calls one after the other, state and store handed on as the last call left them (D3, V12 to V14).
 use Prim.Native.Nat.{ℕ}
 use mathlib.Core.List.{List, [], _∷_, map, flatMap}
+use mathlib.Core.Bool.{Bool, cond}
 use lib.ListN.{getD, take}
 use Rattle.base.specs.Answers.{Answer, given, refused}
 use Rattle.receiver.specs.Call.{receiveAnswer, storeAfter, outputAfter}
@@ -30,10 +31,18 @@ abbrev pub bytesBy : Answer Received → List ℕ → List ℕ
 bytesBy (given r) output = take (r .bytes) output
 bytesBy (refused n at) output = []
 
--- the number of the refusal, 0 for a packet that is taken (W16)
-abbrev pub verdictOf : Answer Received → ℕ
-verdictOf (given r) = 0
-verdictOf (refused n at) = n
+-- the packet is taken, or refused with a number
+pub data Verdict : Type 0 where
+  takes : Verdict
+  refuses : ℕ → Verdict
+
+abbrev pub verdictOf : Answer Received → Verdict
+verdictOf (given r) = takes
+verdictOf (refused n at) = refuses n
+
+-- what is said of an arrival, where R14 is the only refusal
+abbrev pub takenOr14 : Bool → Verdict
+takenOr14 first = cond first takes (refuses 14)
 
 -- the run's payloads, its first packet's number, and what comes of it
 module _ (payloads : List (List ℕ)) (first : ℕ) where
@@ -60,5 +69,5 @@ module _ (payloads : List (List ℕ)) (first : ℕ) where
 abbrev pub handedOut : List Call → List ℕ
 handedOut cs = flatMap (λ (c : Call). c .bytes) cs
 
-abbrev pub verdicts : List Call → List ℕ
+abbrev pub verdicts : List Call → List Verdict
 verdicts cs = map (λ (c : Call). verdictOf (c .answer)) cs

@@ -12,7 +12,7 @@ use Rattle.receiver.specs.Call.{fragmentLimit, stateOf}
 use Rattle.lawful.specs.Train.{Piece, obusIn, join, whole}
 use Rattle.lawful.specs.Lawful.{Lawful}
 use Rattle.delivery.specs.Arrivals.{timely, firstTimely, Near, inOrder}
-use Rattle.delivery.specs.Calls.{Arrival, packetsIn, calls, handedOut, verdicts}
+use Rattle.delivery.specs.Calls.{Arrival, packetsIn, takes, takenOr14, calls, handedOut, verdicts}
 
 -- the space of V17, where no OBU has more than `size` bytes and no payload more than `mtu`
 pub record Space (t : List Piece) (payloads : List (List ℕ)) (size mtu : ℕ) (store : List ℕ) (arrivals : List Arrival) : Type 0 where
@@ -31,7 +31,7 @@ pub record Delivered (t : List Piece) (payloads : List (List ℕ)) (first : ℕ)
   -- R14 is given to exactly those arrivals that are not the first coming of a timely packet, and no other refusal arises
   pub refusals :
       verdicts (calls payloads first (stateOf fresh) store arrivals)
-      ≡ map (λ (b : Bool). cond b 0 14) (firstTimely [] (packetsIn arrivals))
+      ≡ map takenOr14 (firstTimely [] (packetsIn arrivals))
 
 abbrev pub Delivery : Type 0
 Delivery =
@@ -49,4 +49,4 @@ NoLoss =
     → packetsIn arrivals ≡ inOrder 0 (length payloads)
     → Space t payloads size mtu store arrivals
     → (given (handedOut (calls payloads first (stateOf fresh) store arrivals)) ≡ wires (map join (obusIn t)))
-    × All (λ v. v ≡ 0) (verdicts (calls payloads first (stateOf fresh) store arrivals))
+    × All (λ v. v ≡ takes) (verdicts (calls payloads first (stateOf fresh) store arrivals))

@@ -3,3 +3,5 @@ pub mod Calls
 pub mod Delivery
 pub mod Units
 pub mod ReadBack
+pub mod RoundTrip
+pub mod Trains

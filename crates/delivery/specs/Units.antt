@@ -2,6 +2,7 @@
 use Prim.Native.Nat.{ℕ, suc, _+_, _*_, _≤_}
 use mathlib.Core.Path.{_≡_}
 use mathlib.Core.List.{List, [], _∷_, _++_, map, flatMap}
+use mathlib.Core.Logic.{_⊎_}
 use mathlib.Core.Bool.{Bool, true, cond, _&&_}
 use lib.ListN.{length, getD}
 use lib.Dec.{ltb, leb}
@@ -19,7 +20,7 @@ use Rattle.receiver.specs.Joining.{fresh}
 use Rattle.receiver.specs.Call.{stateOf}
 use Rattle.lawful.specs.Lawful.{Given}
 use Rattle.delivery.specs.Arrivals.{timely, firstTimely, Near, inOrder}
-use Rattle.delivery.specs.Calls.{Arrival, packetsIn, calls, handedOut, verdicts}
+use Rattle.delivery.specs.Calls.{Arrival, packetsIn, takes, refuses, takenOr14, calls, handedOut, verdicts}
 
 -- one payload call: a unit, its mtu, and what is lent
 pub record Sending : Type 0 where
@@ -80,7 +81,7 @@ pub record UnitsDelivered (sendings : List Sending) (first : ℕ) (store : List 
   -- R14 is given to exactly those arrivals that are not the first coming of a timely packet, and no other refusal arises
   pub refusals :
       verdicts (calls (payloadsSent sendings) first (stateOf fresh) store arrivals)
-      ≡ map (λ (b : Bool). cond b 0 14) (firstTimely [] (packetsIn arrivals))
+      ≡ map takenOr14 (firstTimely [] (packetsIn arrivals))
 
 abbrev pub UnitsDelivery : Type 0
 UnitsDelivery =
@@ -98,4 +99,13 @@ UnitsNoLoss =
     → packetsIn arrivals ≡ inOrder 0 (length (payloadsSent sendings))
     → UnitSpace sendings size mtu store arrivals
     → (handedOut (calls (payloadsSent sendings) first (stateOf fresh) store arrivals) ≡ flatMap (λ (s : Sending). flatMap (wireOf (s .unit)) (obusOf (s .unit))) sendings)
-    × All (λ v. v ≡ 0) (verdicts (calls (payloadsSent sendings) first (stateOf fresh) store arrivals))
+    × All (λ v. v ≡ takes) (verdicts (calls (payloadsSent sendings) first (stateOf fresh) store arrivals))
+
+-- of the packets that the payload call wrote, none gets a refusal but R14: never R13, R15, R16, R17 or R18, and with this space never R12, R19 or R20
+abbrev pub UnitsOnly14 : Type 0
+UnitsOnly14 =
+    (sendings : List Sending) (first size mtu : ℕ) (store : List ℕ) (arrivals : List Arrival)
+    → All Accepted sendings
+    → Near (length (payloadsSent sendings)) (packetsIn arrivals)
+    → UnitSpace sendings size mtu store arrivals
+    → All (λ v. (v ≡ takes) ⊎ (v ≡ refuses 14)) (verdicts (calls (payloadsSent sendings) first (stateOf fresh) store arrivals))

@@ -1,0 +1,107 @@
+-- What crosses says all: 0 is success and nothing else, number and words tell the answers apart, and a state that is handed on is that
+-- state. Assumes nothing.
+use mathlib.Core.Path.{_≡_, refl, ap, ap₂}
+use Prim.Native.Nat.{ℕ, _%_, _≤_, _<_}
+use native.Mathlib.Nat.{mod-eq-of-lt}
+use native.Mathlib.Omega.{arith}
+use mathlib.Core.Bool.{Bool, true, false, cond}
+use mathlib.Core.List.{List, [], _∷_}
+use lib.Dec.{ltb}
+use Rattle.base.specs.Answers.{Answer, given, refused}
+use Rattle.base.specs.Refusals.{numberOf}
+use Rattle.base.specs.declared.Refusal.{Refusal}
+use Rattle.base.specs.declared.Refusal.the-variants.{MtuOverLimit, UnitOverLimit, ExtensionMissing, SizeMissing, SizeUnfinished, SizeTooLarge, PayloadPastUnit, ObuListFull, PlanListFull, OutputFull, NoSuchPacket, StateImpossible, PayloadLength, NotAhead, NewWithContinuation, ElementLengthBad, ElementBad, ObuBroken, FragmentTooLong, OutputTooShort, TrainVersion, TrainCut, RecordTooShort}
+use Rattle.leb128.specs.declared.SizeField.{SizeField}
+use Rattle.packetizer.specs.declared.Planned.{Planned}
+use Rattle.payloader.specs.declared.Payloads.{Payloads}
+use Rattle.receiver.specs.Joining.{fresh}
+use Rattle.receiver.specs.Call.{stateOf}
+use Rattle.receiver.specs.declared.State.{State}
+use Rattle.train.specs.declared.RecordHead.{RecordHead}
+use Rattle.av1rtp.specs.Words.{numberIn, wordsIn}
+use Rattle.av1rtp.specs.Calls.{one, plannedWords, payloadsWords, fieldWords, recordWords, stateIn, stateWords}
+
+-- ---- answers
+
+-- no refusal has the number 0
+pub never-zero : (r : Refusal) → 1 ≤ numberOf r
+never-zero MtuOverLimit = omega arith
+never-zero UnitOverLimit = omega arith
+never-zero ExtensionMissing = omega arith
+never-zero SizeMissing = omega arith
+never-zero SizeUnfinished = omega arith
+never-zero SizeTooLarge = omega arith
+never-zero PayloadPastUnit = omega arith
+never-zero ObuListFull = omega arith
+never-zero PlanListFull = omega arith
+never-zero OutputFull = omega arith
+never-zero NoSuchPacket = omega arith
+never-zero StateImpossible = omega arith
+never-zero PayloadLength = omega arith
+never-zero NotAhead = omega arith
+never-zero NewWithContinuation = omega arith
+never-zero ElementLengthBad = omega arith
+never-zero ElementBad = omega arith
+never-zero ObuBroken = omega arith
+never-zero FragmentTooLong = omega arith
+never-zero OutputTooShort = omega arith
+never-zero TrainVersion = omega arith
+never-zero TrainCut = omega arith
+never-zero RecordTooShort = omega arith
+
+-- a refusal with a number of its own
+abbrev pub Named : {A : Type 0} → Answer A → Type 0
+Named (given a) = Unit {0}
+Named (refused n at) = 1 ≤ n
+
+-- where three words tell what was asked for apart, number and words tell the answers apart
+pub told-apart : {A : Type 0} (three : A → List ℕ) → ((a b : A) → three a ≡ three b → a ≡ b)
+    → (x y : Answer A) → Named x → Named y → numberIn x ≡ numberIn y → wordsIn three x ≡ wordsIn three y → x ≡ y
+told-apart three apart (given a) (given b) p q e f = ap given (apart a b (cc))
+told-apart three apart (given a) (refused n at) p q e f = absurd (omega arith)
+told-apart three apart (refused n at) (given b) p q e f = absurd (omega arith)
+told-apart three apart (refused n at) (refused m bt) p q e f = ap₂ refused e (cc)
+
+-- and they do
+pub one-apart : (a b : ℕ) → one a ≡ one b → a ≡ b
+one-apart a b e = cc
+
+pub planned-apart : (a b : Planned) → plannedWords a ≡ plannedWords b → a ≡ b
+planned-apart a b e =
+    let o : a .obus ≡ b .obus = cc in
+    let p : a .packets ≡ b .packets = cc in
+    ap₂ (λ (n m : ℕ). record { obus = n; packets = m }) o p
+
+pub payloads-apart : (a b : Payloads) → payloadsWords a ≡ payloadsWords b → a ≡ b
+payloads-apart a b e =
+    let o : a .obus ≡ b .obus = cc in
+    let p : a .packets ≡ b .packets = cc in
+    let q : a .bytes ≡ b .bytes = cc in
+    rw (o, p, q)
+
+pub field-apart : (a b : SizeField) → fieldWords a ≡ fieldWords b → a ≡ b
+field-apart a b e =
+    let o : a .value ≡ b .value = cc in
+    let p : a .used ≡ b .used = cc in
+    ap₂ (λ (n m : ℕ). record { value = n; used = m }) o p
+
+pub record-apart : (a b : RecordHead) → recordWords a ≡ recordWords b → a ≡ b
+record-apart a b e =
+    let o : a .number ≡ b .number = cc in
+    let p : a .start ≡ b .start = cc in
+    let q : a .length ≡ b .length = cc in
+    rw (o, p, q)
+
+-- ---- the receiver's state
+
+pub state-fresh : stateIn (0 ∷ 0 ∷ 0 ∷ []) ≡ stateOf fresh
+state-fresh = refl
+
+begun-back : (t : Bool) → ltb 0 (cond t 1 0) ≡ t
+begun-back true = refl
+begun-back false = refl
+
+-- a number of a packet has 16 bits
+pub state-back : (s : State) → s .last < 65536 → stateIn (stateWords s) ≡ s
+state-back s h =
+    ap₂ (λ (t : Bool) (n : ℕ). record { begun = t; last = n; «open» = s .«open» }) (begun-back (s .begun)) (mod-eq-of-lt h)

@@ -1,0 +1,39 @@
+-- The number and the words of an answer, from what a call within gave or refused. Assumes nothing.
+use mathlib.Core.Path.{_≡_, ap, _∙_}
+use Prim.Native.Nat.{ℕ}
+use native.Mathlib.Omega.{arith}
+use mathlib.Core.List.{List, [], _∷_}
+use lib.ListN.{length}
+use Rattle.base.specs.Answers.{Answer, given, refused}
+use Rattle.element.specs.Elements.{chosen}
+use Rattle.element.specs.Paper.{walked}
+use Rattle.element.specs.declared.Part.{Part}
+use Rattle.element.specs.declared.Walked.{Walked}
+use Rattle.av1rtp.specs.Words.{numberIn, wordsIn}
+use Rattle.av1rtp.specs.Calls.{elementCount}
+
+module _ {A : Type 0} (three : A → List ℕ) {x : Answer A} {r : ℕ} {words : List ℕ} where
+  pub gave : {a : A} → given a ≡ x → (r ≡ 0) × (words ≡ 0 ∷ three a) → (r ≡ numberIn x) × (words ≡ wordsIn three x)
+  gave e h = (h .0 ∙ ap numberIn e, h .1 ∙ ap (wordsIn three) e)
+
+  pub declined : {n at : ℕ} → refused n at ≡ x → (r ≡ n) × (words ≡ at ∷ 0 ∷ 0 ∷ 0 ∷ []) → (r ≡ numberIn x) × (words ≡ wordsIn three x)
+  declined e h = (h .0 ∙ ap numberIn e, h .1 ∙ ap (wordsIn three) e)
+
+-- ---- elements: what a walk to element k says of all of them
+
+abbrev pub elementWords : ℕ → Answer (List Part) → List ℕ
+elementWords k x = 0 ∷ elementCount x ∷ chosen k x .start ∷ chosen k x .length ∷ []
+
+module _ (k : ℕ) {r : ℕ} {words : List ℕ} where
+  pub walk-gave : (x : Answer (List Part)) (w : Walked) → given w ≡ walked k x
+      → (r ≡ 0) × (words ≡ 0 ∷ w .elements ∷ w .kept .start ∷ w .kept .length ∷ [])
+      → (r ≡ numberIn x) × (words ≡ elementWords k x)
+  walk-gave (given ps) w e h =
+      let f : w ≡ record { elements = length ps; kept = chosen k (given ps) } = cc in
+      (h .0, h .1 ∙ ap (λ (v : Walked). 0 ∷ v .elements ∷ v .kept .start ∷ v .kept .length ∷ []) f)
+  walk-gave (refused n at) w e h = let z : _≡_ {A = ℕ} 0 1 = cc in absurd (omega arith)
+
+  pub walk-declined : (x : Answer (List Part)) (n at : ℕ) → refused n at ≡ walked k x
+      → (r ≡ n) × (words ≡ 0 ∷ 0 ∷ 0 ∷ 0 ∷ []) → (r ≡ numberIn x) × (words ≡ elementWords k x)
+  walk-declined (given ps) n at e h = let z : _≡_ {A = ℕ} 0 1 = cc in absurd (omega arith)
+  walk-declined (refused m a) n at e h = let f : n ≡ m = cc in (h .0 ∙ f, h .1)

@@ -1,0 +1,68 @@
+-- What the words of each export are, over the very answers that the calls within promise.
+use Prim.Native.Nat.{ℕ, _%_}
+use mathlib.Core.List.{List, [], _∷_}
+use mathlib.Core.Bool.{cond}
+use lib.ListN.{length, getD}
+use lib.Dec.{ltb}
+use Rattle.base.specs.Answers.{Answer, given, refused}
+use Rattle.leb128.specs.Field.{Field, sized, unreadable}
+use Rattle.leb128.specs.declared.SizeField.{SizeField}
+use Rattle.packetizer.specs.declared.Planned.{Planned}
+use Rattle.payloader.specs.declared.Payloads.{Payloads}
+use Rattle.element.specs.declared.Part.{Part}
+use Rattle.receiver.specs.declared.State.{State}
+use Rattle.receiver.specs.declared.Received.{Received}
+use Rattle.train.specs.Train as train
+use Rattle.train.specs.declared.RecordHead.{RecordHead}
+
+-- one number: how many OBUs, a header byte, a version
+abbrev pub one : ℕ → List ℕ
+one n = n ∷ 0 ∷ 0 ∷ []
+
+abbrev pub plannedWords : Planned → List ℕ
+plannedWords p = p .obus ∷ p .packets ∷ 0 ∷ []
+
+abbrev pub payloadsWords : Payloads → List ℕ
+payloadsWords p = p .obus ∷ p .packets ∷ p .bytes ∷ []
+
+-- ---- a size field
+
+abbrev pub fieldAnswer : Field → Answer SizeField
+fieldAnswer (sized v n) = given (record { value = v; used = n })
+fieldAnswer (unreadable k) = refused k 0
+
+abbrev pub fieldWords : SizeField → List ℕ
+fieldWords f = f .value ∷ f .used ∷ 0 ∷ []
+
+-- ---- element k: the public call carries no place, and where there is no element its part is empty (E7, E8)
+
+abbrev pub elementCount : Answer (List Part) → ℕ
+elementCount (given ps) = length ps
+elementCount (refused n at) = 0
+
+-- ---- the receiver's state, in three words: begun is any number but 0, the last number counts modulo 65,536 (V1, L7)
+
+abbrev pub stateIn : List ℕ → State
+stateIn words = record { begun = ltb 0 (getD words 0 0); last = getD words 1 0 % 65536; «open» = getD words 2 0 }
+
+abbrev pub stateWords : State → List ℕ
+stateWords s = cond (s .begun) 1 0 ∷ s .last ∷ s .«open» ∷ []
+
+-- the words afterwards: a refusal leaves them
+abbrev pub stateAfter : Answer Received → List ℕ → List ℕ
+stateAfter (given r) words = stateWords (r .state)
+stateAfter (refused n at) words = words
+
+-- how many bytes are handed out
+abbrev pub receivedWords : Received → List ℕ
+receivedWords r = one (r .bytes)
+
+-- ---- a train's record: the end is the record of no payload, which no record is (L11)
+
+abbrev pub recordAnswer : train.Front → Answer RecordHead
+recordAnswer train.ends = given (record { number = 0; start = 0; length = 0 })
+recordAnswer (train.holds h) = given h
+recordAnswer (train.stops k) = refused k 0
+
+abbrev pub recordWords : RecordHead → List ℕ
+recordWords h = h .number ∷ h .start ∷ h .length ∷ []

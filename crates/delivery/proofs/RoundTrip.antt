@@ -1,0 +1,304 @@
+-- `unpack` after `pack` gives all kept OBUs back (G2 to G5). Assumes nothing.
+--     units-good    the units that `pack` packs are accepted, and within its store
+--     all-go        what one packet finishes has room in `unpack`'s output
+--     round-trip    the theorem
+use mathlib.Core.Path.{_≡_, refl, sym, ap, ap₂, subst, _∙_}
+use Prim.Native.Nat.{ℕ, zero, suc, _+_, _-_, _*_, _/_, _%_, _≤_, _<_}
+use native.Mathlib.Omega.{arith}
+use mathlib.Core.List.{List, [], _∷_, _++_, append-assoc, append-nil, map, flatMap}
+use mathlib.Core.Bool.{Bool, true, false, cond, not, _||_}
+use lib.ListN.{length, getD, take, drop, length-take, length-append, replicate, length-replicate}
+use lib.Seq.{getD-drop}
+use lib.Dec.{ltb, eqb}
+use Rattle.base.specs.Answers.{Answer, given, refused}
+use Rattle.base.specs.Lists.{All}
+use Rattle.base.proofs.Lists.{all-map, flatMap-append, flatMap-one}
+use Rattle.base.proofs.Tests.{by-cond}
+use Rattle.obu.specs.Unit.{unitLimit, obuNumbers, Placed, keptOf, obusOf}
+use Rattle.obu.specs.Wire.{wireOf}
+use Rattle.obu.specs.declared.Obu.{Obu}
+use Rattle.obu.proofs.Theorems.{Inside, kept-inside, wire-small}
+use Rattle.packetizer.specs.Plan.{leastMtu, planNumbers}
+use Rattle.packetizer.specs.Call.{mtuLimit}
+use Rattle.payloader.specs.Payload.{payloadsOf}
+use Rattle.payloader.specs.Call.{payloadAnswer}
+use Rattle.payloader.specs.declared.Payloads.{Payloads}
+use Rattle.packing.specs.Pack.{packVersion, headWidth, Head, found, headIn, unitStore, listRecords, outputBytes, unitWidth, nextNumber, numbered, numberAfter, answerIn, Length, over, stated, cut, lengthIn, Units, stopped, withUnit, withLength, unitsFrom, unitsBy, unitsIn, packetsOf, trainBy, packOf}
+use Rattle.packing.specs.declared.PackHead.{PackHead}
+use Rattle.packing.proofs.Reading.{stated-within}
+use Rattle.packing.proofs.Units.{answer-is}
+use Rattle.train.specs.Bytes.{valueAfter, valueOf}
+use Rattle.train.specs.Train.{trainVersion, lengthWidth, Packet, Train, ended, trainOf as trainFile, trainIn, standing}
+use Rattle.train.proofs.Written.{AllFit, written-read}
+use Rattle.receiver.specs.Joining.{Held, fresh}
+use Rattle.receiver.specs.Call.{Taken, stateOf}
+use Rattle.receiver.proofs.Laws.{holding-fresh}
+use Rattle.unpacking.specs.Unpack.{fragmentStore, writtenFor, unpackedFrom, unpackOf}
+use Rattle.lawful.specs.Train as lawful
+use Rattle.lawful.specs.Train.{runOf}
+use Rattle.lawful.specs.Payload.{CarryAll}
+use Rattle.lawful.specs.Lawful.{Given}
+use Rattle.lawful.proofs.Lists.{all-append, all-left, all-right, all-both, all-of-map}
+use Rattle.delivery.specs.Arrivals.{number, inOrder}
+use Rattle.delivery.specs.Calls.{takes, calls, handedOut, verdicts}
+use Rattle.delivery.specs.Units.{Sending, Accepted, payloadsSent, UnitSpace}
+use Rattle.delivery.specs.RoundTrip.{wireBytesOf, RoundTrip}
+use Rattle.delivery.proofs.Turns.{turns, heldThen, turns-append, unpacked-turns, Goes, turns-room, arriving, arriving-packets, arriving-outputs, callBy, calls-turns, turns-out, turns-go}
+use Rattle.delivery.proofs.OneUnit.{within-limits, trainOf, train-carried, train-short}
+use Rattle.delivery.proofs.UnitsTheorem.{units-no-loss}
+
+-- ---- the units that are packed
+
+-- a unit that the payload call accepts with the space of `pack`, and that is within its store
+abbrev Good : ℕ → List ℕ → Type 0
+Good mtu u = Given (answerIn listRecords listRecords outputBytes mtu u) × (length u ≤ unitStore)
+
+module _ (mtu : ℕ) where
+  with-unit : (i : ℕ) (u : List ℕ) (a : Answer Payloads) → a ≡ answerIn listRecords listRecords outputBytes mtu u → length u ≤ unitStore
+      → (rest : Units) → All (Good mtu) (rest .units) → All (Good mtu) (withUnit i u a rest .units)
+  with-unit i u (given p) e s rest r = ((subst Given e tt, s), r)
+  with-unit i u (refused k at) e s rest r = tt
+
+  with-length : (i : ℕ) (l : List ℕ) (x : Length) → x ≡ lengthIn l → (rest : ℕ → Units) → ((n : ℕ) → All (Good mtu) (rest n .units)) → All (Good mtu) (withLength mtu i l x rest .units)
+  with-length i l over e rest r = tt
+  with-length i l cut e rest r = tt
+  with-length i l (stated s) e rest r =
+      by-cond (λ (x : Units). All (Good mtu) (x .units)) (ltb (length (drop unitWidth l)) s) _ _ (λ t. tt)
+      (λ t.
+      with-unit i (take s (drop unitWidth l)) (answerIn listRecords listRecords outputBytes mtu (take s (drop unitWidth l))) refl
+      (omega (arith, length-take s (drop unitWidth l), stated-within l s e)) (rest (unitWidth + s)) (r (unitWidth + s)))
+
+  units-good : (i : ℕ) (l : List ℕ) (skip : ℕ) → All (Good mtu) (unitsFrom mtu i l skip .units)
+  unfolding unitsFrom
+  units-good i [] skip = tt
+  units-good i (b ∷ l) (suc skip) = units-good i l skip
+  units-good i (b ∷ l) zero = with-length i (b ∷ l) (lengthIn (b ∷ l)) refl (λ span. unitsFrom mtu (i + 1) l (span - 1)) (λ n. units-good (i + 1) l (n - 1))
+
+-- ---- lists
+
+numbered-append : (n : ℕ) (ps qs : List (List ℕ)) → numbered n (ps ++ qs) ≡ numbered n ps ++ numbered (numberAfter n ps) qs
+unfolding numbered numberAfter
+numbered-append n [] qs = refl
+numbered-append n (p ∷ ps) qs = ap (λ (l : List Packet). record { number = n; payload = p } ∷ l) (numbered-append (nextNumber n) ps qs)
+
+verdicts-right : (l m : List (Answer Taken)) → All (λ v. v ≡ takes) (verdicts (map callBy (l ++ m))) → All (λ v. v ≡ takes) (verdicts (map callBy m))
+verdicts-right [] m a = a
+verdicts-right (x ∷ l) m a = verdicts-right l m (a .1)
+
+-- ---- as payload calls
+
+-- a slice of so many bytes; what they are does not matter
+zeros : ℕ → List ℕ
+zeros n = replicate n 0
+
+zeros-length : (n : ℕ) → length (zeros n) ≡ n
+unfolding zeros
+zeros-length n = length-replicate n 0
+
+module _ (mtu : ℕ) (least : leastMtu ≤ mtu) where
+  sending : List ℕ → Sending
+  sending u = record { mtu = mtu; unit = u; obus = zeros (listRecords * obuNumbers); plan = zeros (listRecords * planNumbers); output = zeros outputBytes }
+
+  sendings : List (List ℕ) → List Sending
+  sendings us = map sending us
+
+  accepted : (us : List (List ℕ)) → All (Good mtu) us → All Accepted (sendings us)
+  unfolding sendings sending
+  accepted [] g = tt
+  accepted (u ∷ us) g = ((least, subst Given (sym (answer-is mtu u o p w ∙ spaced)) (g .0 .0)), accepted us (g .1))
+    where
+      o : List ℕ
+      o = zeros (listRecords * obuNumbers)
+
+      p : List ℕ
+      p = zeros (listRecords * planNumbers)
+
+      w : List ℕ
+      w = zeros outputBytes
+
+      spaced : answerIn (length o / obuNumbers) (length p / planNumbers) (length w) mtu u ≡ answerIn listRecords listRecords outputBytes mtu u
+      spaced =
+          ap (λ (n : ℕ). answerIn (n / obuNumbers) (length p / planNumbers) (length w) mtu u) (zeros-length (listRecords * obuNumbers))
+          ∙ ap (λ (n : ℕ). answerIn listRecords (n / planNumbers) (length w) mtu u) (zeros-length (listRecords * planNumbers))
+          ∙ ap (λ (n : ℕ). answerIn listRecords listRecords n mtu u) (zeros-length outputBytes)
+
+  sent-payloads : (us : List (List ℕ)) → payloadsSent (sendings us) ≡ flatMap (payloadsOf mtu) us
+  unfolding sendings sending flatMap
+  sent-payloads [] = refl
+  sent-payloads (u ∷ us) = ap (λ (l : List (List ℕ)). payloadsOf mtu u ++ l) (sent-payloads us)
+
+  sent-wires : (us : List (List ℕ)) → flatMap (λ (s : Sending). flatMap (wireOf (s .unit)) (obusOf (s .unit))) (sendings us) ≡ wireBytesOf us
+  unfolding sendings sending flatMap
+  sent-wires [] = refl
+  sent-wires (u ∷ us) = ap (λ (l : List ℕ). flatMap (wireOf u) (obusOf u) ++ l) (sent-wires us)
+
+  sent-obus : (us : List (List ℕ)) → All (Good mtu) us → All (λ s. All (λ (o : Obu). o .size ≤ unitStore) (obusOf (s .unit))) (sendings us)
+  unfolding sendings sending
+  sent-obus [] g = tt
+  sent-obus (u ∷ us) g = (
+    all-of-map (λ (p : Placed). p .obu) (λ (o : Obu). o .size ≤ unitStore) (keptOf u)
+        (all-map (λ (p : Placed) (i : Inside (length u) p). omega (arith, i .start, i .within, i .size, g .0 .1)) (keptOf u) (kept-inside u)),
+    sent-obus us (g .1),
+  )
+
+  sent-mtus : (us : List (List ℕ)) → All (λ s. s .mtu ≤ mtu) (sendings us)
+  unfolding sendings sending
+  sent-mtus [] = tt
+  sent-mtus (u ∷ us) = (omega arith, sent-mtus us)
+
+  -- ---- with no loss, and an output as long as demand 3 asks for
+
+  module _ (first : ℕ) where
+    abbrev room : ℕ
+    room = unitStore + 4 * mtu
+
+    packets : List (List ℕ) → List Packet
+    packets us = numbered (number first 0) (payloadsSent (sendings us))
+
+    made : List (List ℕ) → List (Answer Taken)
+    made us = turns fragmentStore room fresh (packets us)
+
+    -- the calls of the theorem with no loss
+    calls-made : (us : List (List ℕ)) → calls (payloadsSent (sendings us)) first (stateOf fresh) (zeros fragmentStore) (arriving (zeros room) 0 (length (payloadsSent (sendings us)))) ≡ map callBy (made us)
+    unfolding made packets
+    calls-made us =
+        calls-turns (payloadsSent (sendings us)) first (zeros room) (payloadsSent (sendings us)) 0 fresh (zeros fragmentStore) refl (holding-fresh (zeros fragmentStore))
+        ∙ ap₂ (λ (a b : ℕ). map callBy (turns a b fresh (numbered (number first 0) (payloadsSent (sendings us))))) (zeros-length fragmentStore) (zeros-length room)
+
+    made-of : (us : List (List ℕ)) → All (Good mtu) us → (flatMap writtenFor (made us) ≡ wireBytesOf us) × All (λ v. v ≡ takes) (verdicts (map callBy (made us)))
+    made-of us g =
+        let n : ℕ = length (payloadsSent (sendings us)) in
+        let d =
+        units-no-loss (sendings us) first unitStore mtu (zeros fragmentStore) (arriving (zeros room) 0 n) (accepted us g) (arriving-packets (zeros room) 0 n)
+        (record {
+          obus-fit = sent-obus us g;
+          mtus-fit = sent-mtus us;
+          store-has = omega (arith, zeros-length fragmentStore);
+          outputs-have = arriving-outputs (λ (l : List ℕ). room ≤ length l) (zeros room) 0 n (omega (arith, zeros-length room));
+        }) in (
+          sym (turns-out (made us)) ∙ sym (ap handedOut (calls-made us)) ∙ d .0 ∙ sent-wires us,
+          subst (λ cs. All (λ v. v ≡ takes) (verdicts cs)) (calls-made us) (d .1),
+        )
+
+    -- ---- what one packet finishes is of one unit, and so has room
+
+    payloads-append : (us vs : List (List ℕ)) → payloadsSent (sendings (us ++ vs)) ≡ payloadsSent (sendings us) ++ payloadsSent (sendings vs)
+    payloads-append us vs =
+        sent-payloads (us ++ vs) ∙ flatMap-append (payloadsOf mtu) us vs ∙ sym (ap₂ _++_ (sent-payloads us) (sent-payloads vs))
+
+    made-append : (us vs : List (List ℕ)) → (l : List (Answer Taken)) × (made (us ++ vs) ≡ made us ++ l)
+    unfolding made packets
+    made-append us vs = (
+      turns fragmentStore room (heldThen fragmentStore room fresh (packets us)) (numbered (numberAfter (number first 0) (payloadsSent (sendings us))) (payloadsSent (sendings vs))),
+      ap (λ (l : List (List ℕ)). turns fragmentStore room fresh (numbered (number first 0) l)) (payloads-append us vs)
+          ∙ ap (turns fragmentStore room fresh) (numbered-append (number first 0) (payloadsSent (sendings us)) (payloadsSent (sendings vs)))
+          ∙ turns-append fragmentStore room fresh (packets us) (numbered (numberAfter (number first 0) (payloadsSent (sendings us))) (payloadsSent (sendings vs))),
+    )
+
+    one-more : (us : List (List ℕ)) (u : List ℕ) → All (Good mtu) (us ++ (u ∷ [])) → All (Goes outputBytes) (made us) → All (Goes outputBytes) (made (us ++ (u ∷ [])))
+    one-more us u g a =
+        let m = made-append us (u ∷ []) in
+        let before = made-of us (all-left (Good mtu) us (u ∷ []) g) in
+        let now = made-of (us ++ (u ∷ [])) g in
+        let good : Good mtu u = all-right (Good mtu) us (u ∷ []) g .0 in
+        let small = wire-small u (omega (arith, good .1)) in
+        let w : flatMap writtenFor (made us) ++ flatMap writtenFor (m .0) ≡ wireBytesOf us ++ wireBytesOf (u ∷ []) =
+        sym (flatMap-append writtenFor (made us) (m .0)) ∙ sym (ap (flatMap writtenFor) (m .1)) ∙ now .0 ∙ flatMap-append _ us (u ∷ []) in
+        let n : length (flatMap writtenFor (m .0)) ≡ length (wireBytesOf (u ∷ [])) =
+        omega (arith, ap length w, length-append (flatMap writtenFor (made us)) (flatMap writtenFor (m .0)), length-append (wireBytesOf us) (wireBytesOf (u ∷ [])), ap length (before .0)) in
+        let k : length (wireBytesOf (u ∷ [])) ≡ length (flatMap (wireOf u) (obusOf u)) = ap length (flatMap-one _ u) in
+        let v = subst (λ (l : List (Answer Taken)). All (λ x. x ≡ takes) (verdicts (map callBy l))) (m .1) (now .1) in
+        rw (m .1)
+        (all-append (Goes outputBytes) (made us) (m .0) a
+        (turns-go outputBytes (m .0) (verdicts-right (made us) (m .0) v) (omega (arith, n, k, small, good .1))))
+
+    all-go : (rest us : List (List ℕ)) → All (Good mtu) (us ++ rest) → All (Goes outputBytes) (made us) → All (Goes outputBytes) (made (us ++ rest))
+    all-go [] us g a = rw (append-nil us) a
+    all-go (u ∷ rest) us g a =
+        let e : (us ++ (u ∷ [])) ++ rest ≡ us ++ (u ∷ rest) = append-assoc us (u ∷ []) rest in
+        let h : All (Good mtu) ((us ++ (u ∷ [])) ++ rest) = subst (All (Good mtu)) (sym e) g in
+        subst (λ (l : List (List ℕ)). All (Goes outputBytes) (made l)) e
+        (all-go rest (us ++ (u ∷ [])) h (one-more us u (all-left (Good mtu) (us ++ (u ∷ [])) rest h) a))
+
+-- ---- the train holds these packets
+
+carried-some : (bs : List (List ℕ)) (ps : List lawful.Packet) → CarryAll bs ps → All (λ (b : List ℕ). 1 ≤ length b) bs
+carried-some [] ps c = tt
+carried-some (b ∷ bs) [] c = absurd c
+carried-some ([] ∷ bs) (p ∷ ps) c = absurd (c .0)
+carried-some ((h ∷ b) ∷ bs) (p ∷ ps) c = (omega arith, carried-some bs ps (c .1))
+
+sized : (ss : List Sending) → All Accepted ss → All (λ (b : List ℕ). (1 ≤ length b) × (length b ≤ mtuLimit)) (payloadsSent ss)
+unfolding flatMap
+sized [] h = tt
+sized (s ∷ ss) h =
+    all-append (λ (b : List ℕ). (1 ≤ length b) × (length b ≤ mtuLimit)) (payloadsOf (s .mtu) (s .unit)) (payloadsSent ss)
+    (all-both (λ (b : List ℕ). 1 ≤ length b) (λ (b : List ℕ). length b ≤ mtuLimit) (payloadsOf (s .mtu) (s .unit))
+    (carried-some (payloadsOf (s .mtu) (s .unit)) (runOf (trainOf s)) (train-carried s (h .0)))
+    (all-map (λ (b : List ℕ) (m : length b ≤ s .mtu). omega (arith, m, within-limits s (h .0) .1)) (payloadsOf (s .mtu) (s .unit)) (train-short s (h .0))))
+    (sized ss (h .1))
+
+all-fit : (n : ℕ) (ps : List (List ℕ)) → n < 65536 → All (λ (b : List ℕ). (1 ≤ length b) × (length b ≤ mtuLimit)) ps → AllFit lengthWidth (numbered n ps)
+unfolding numbered
+all-fit n [] l h = tt
+all-fit n (p ∷ ps) l h = (record { numbered = l; some = h .0 .0; short = omega (arith, h .0 .1) }, all-fit (nextNumber n) ps (omega arith) (h .1))
+
+-- ---- the theorem
+
+bytes-at : (l : List ℕ) → All (λ b. b < 256) l → (i : ℕ) → getD l i 0 < 256
+bytes-at [] h i = omega arith
+bytes-at (b ∷ l) h zero = h .0
+bytes-at (b ∷ l) h (suc i) = bytes-at l (h .1) i
+
+two-small : (l : List ℕ) → ((i : ℕ) → getD l i 0 < 256) → valueOf (take 2 l) < 65536
+unfolding valueAfter
+two-small [] h = omega arith
+two-small (a ∷ []) h = omega (arith, h 0)
+two-small (a ∷ b ∷ l) h = omega (arith, h 0, h 1)
+
+first-small : (l : List ℕ) → All (λ b. b < 256) l → (h : PackHead) → headIn l ≡ found h → h .first < 65536
+unfolding headIn
+first-small l b h e =
+    by-cond (λ (x : Head). x ≡ found h → h .first < 65536) (ltb (length l) headWidth || not (eqb (getD l 0 0) packVersion)) _ _
+    (λ t q. let z : _≡_ {A = ℕ} 0 1 = cc in absurd (omega arith))
+    (λ t q.
+    let f : record { mtu = valueOf (take 2 (drop 1 l)); first = valueOf (take 2 (drop 3 l)) } ≡ h = cc in
+    subst (λ (n : ℕ). n < 65536) (ap (λ (x : PackHead). x .first) f) (two-small (drop 3 l) (λ i. rw (getD-drop 3 l i 0) (bytes-at l b (3 + i)))))
+    e
+
+unpacked : (file : List ℕ) (ps : List Packet) → trainIn lengthWidth file ≡ given (record { packets = ps; stop = ended }) → unpackOf file ≡ unpackedFrom fresh ps
+unpacked file ps e = ap (λ (t : Answer Train). unpackedFrom fresh (standing t)) e
+
+module _ (h : PackHead) (least : leastMtu ≤ h .mtu) (small : h .first < 65536) (us : List (List ℕ)) (good : All (Good (h .mtu)) us) where
+  numbers : number (h .first) 0 ≡ h .first
+  numbers = omega arith
+
+  the-packets : packets (h .mtu) least (h .first) us ≡ packetsOf h us
+  unfolding packets
+  the-packets = ap₂ numbered numbers (sent-payloads (h .mtu) least us)
+
+  fit : AllFit lengthWidth (packets (h .mtu) least (h .first) us)
+  unfolding packets
+  fit = all-fit (number (h .first) 0) (payloadsSent (sendings (h .mtu) least us)) (omega arith) (sized (sendings (h .mtu) least us) (accepted (h .mtu) least us good))
+
+  none : All (Goes outputBytes) (made (h .mtu) least (h .first) [])
+  unfolding made packets sendings numbered turns flatMap
+  none = tt
+
+  packed-unpacked : unpackOf (trainFile lengthWidth trainVersion (packetsOf h us)) ≡ wireBytesOf us
+  unfolding made
+  packed-unpacked =
+      unpacked (trainFile lengthWidth trainVersion (packetsOf h us)) (packetsOf h us)
+      (written-read lengthWidth (packetsOf h us)
+      (subst (AllFit lengthWidth) the-packets fit))
+      ∙ sym (ap (unpackedFrom fresh) the-packets)
+      ∙ unpacked-turns fresh (packets (h .mtu) least (h .first) us)
+      ∙ ap (flatMap writtenFor) (turns-room fragmentStore (room (h .mtu) least (h .first)) outputBytes fresh (packets (h .mtu) least (h .first) us) (all-go (h .mtu) least (h .first) us [] good none))
+      ∙ made-of (h .mtu) least (h .first) us good .0
+
+pub round-trip : RoundTrip
+round-trip input h bytes e least =
+    let us : List (List ℕ) = unitsFrom (h .mtu) 0 (drop headWidth input) 0 .units in
+    ap (λ (x : Head). unpackOf (trainBy (unitsBy (drop headWidth input) x .units) x)) e
+    ∙ packed-unpacked h least (first-small input bytes h e) us (units-good (h .mtu) 0 (drop headWidth input) 0)
+    ∙ sym (ap (λ (x : Head). wireBytesOf (unitsBy (drop headWidth input) x .units)) e)

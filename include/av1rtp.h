@@ -1,0 +1,141 @@
+/* av1rtp.h: AV1 video in RTP payloads, a sender and a receiver, for C and for whatever calls C.
+ *
+ * Every function here is proved (crates/av1rtp): it returns on all input, reaches outside no lent buffer, and what it answers and
+ * writes equals the definitions that its contract cites. docs/RULES.md has the rules; R1, C5 and the like are its names.
+ * Build the library by `rt staticlib av1rtp` and link target/staticlib/libav1rtp.a; it needs nothing but the C library.
+ *
+ * WHAT THE CALLER MUST ENSURE. Nothing can check it here, and the proofs take it for granted:
+ *   - A pointer is not NULL, is aligned for its type, and points to as many values as the length after it says, or as the size
+ *     in brackets says; also where the length is 0. Lengths count values (bytes, numbers), not bytes.
+ *   - What is lent may be read, and, where the pointer is not const, written, for the time of the call, and holds values.
+ *   - No two buffers of one call overlap, and nobody else touches them during the call.
+ * Nothing else is asked. Any bytes, any numbers and any lengths may be given, and no call keeps a pointer.
+ *
+ * ONE TRAIN, ONE FRESH RECEIVER. A packet number counts within one train only. Packet 41 of one train and packet 42 of another look
+ * like neighbours, and a receiver that gets both closes the open fragment of one work with the bytes of the other: it hands out an
+ * OBU that is in neither. No receiver can tell. So each train is given to a state of its own, fresh at its start, and trains are
+ * never joined, neither as files nor packet by packet.
+ *
+ * FOR INSPECTION ONLY. The OBU list and the plan say where things stand in one unit. They are there to be looked at and checked; no
+ * position from them goes into an export. What leaves the house is trains.
+ *
+ * ANSWERS. A call returns 0, or the number of a refusal, and fills four words:
+ *   answer[0]       the offset that a refusal carries (R2 to R8: of the OBU's header byte in the unit), else 0
+ *   answer[1..3]    what was asked for, as said at each call; all 0 on a refusal
+ */
+#ifndef AV1RTP_H
+#define AV1RTP_H
+
+#include <stddef.h>
+#include <stdint.h>
+
+#ifdef __cplusplus
+extern "C" {
+#endif
+
+/* Limits (L1 to L4). mtu and payload are counted without the RTP header. */
+#define AV1RTP_UNIT_LIMIT 1048576     /* bytes of a unit, 0 to this */
+#define AV1RTP_MTU_LIMIT 65533        /* mtu, 0 to this; below 3 there are no packets */
+#define AV1RTP_PAYLOAD_LIMIT 65533    /* bytes of a payload that is received, 1 to this */
+#define AV1RTP_FRAGMENT_LIMIT 1048576 /* bytes of an open fragment */
+
+#define AV1RTP_OBU_NUMBERS 5   /* numbers of a record in an OBU list: header, extension byte or 0, payload start, payload length, size */
+#define AV1RTP_PLAN_NUMBERS 5  /* of a record in a plan: first OBU, elements, first offset, last size, packet size */
+#define AV1RTP_ANSWER_WORDS 4
+#define AV1RTP_STATE_WORDS 3   /* begun (0 or 1), last number taken, open length; {0, 0, 0} is fresh */
+
+/* The refusals, and what each leaves in what was lent. The first that applies is given. */
+enum av1rtp_refusal {
+    /* list, plan, payload: these leave everything as it was */
+    AV1RTP_MTU_OVER_LIMIT = 1,    /* mtu above its limit */
+    AV1RTP_UNIT_OVER_LIMIT = 2,   /* unit longer than its limit */
+    AV1RTP_EXTENSION_MISSING = 3, /* extension bit set, and no second header byte */
+    AV1RTP_SIZE_MISSING = 4,      /* size bit set, and no byte after the header bytes */
+    AV1RTP_SIZE_UNFINISHED = 5,   /* a size field of fewer than 8 bytes that does not end */
+    AV1RTP_SIZE_TOO_LARGE = 6,    /* a size field of more than 8 bytes, or of a value above 4294967295 */
+    AV1RTP_PAYLOAD_PAST_UNIT = 7, /* an OBU's payload ends after the unit does */
+    AV1RTP_OBU_LIST_FULL = 8,     /* no whole record is free in the OBU list for this kept OBU */
+    /* leaves the OBU list filled, plan and output as they were */
+    AV1RTP_PLAN_LIST_FULL = 9,    /* the plan has more records than the plan list */
+    /* leaves OBU list and plan filled, the output as it was */
+    AV1RTP_OUTPUT_FULL = 10,      /* the payloads together are longer than the output */
+    /* header */
+    AV1RTP_NO_SUCH_PACKET = 11,   /* no record k, or one of no element, or one with OBUs beyond the list */
+    /* receive: these leave state, store and output as they were. element gives 13, 15, 16 and 17 */
+    AV1RTP_STATE_IMPOSSIBLE = 12, /* the state's open length is above the store's length or the fragment's limit */
+    AV1RTP_PAYLOAD_LENGTH = 13,   /* payload empty or over its limit */
+    AV1RTP_NOT_AHEAD = 14,        /* not 1 to 32767 ahead of the last number taken: a repeat, or late */
+    AV1RTP_NEW_WITH_CONTINUATION = 15, /* N and Z both set */
+    AV1RTP_ELEMENT_LENGTH_BAD = 16, /* an element's length field is bad as in 5 or 6, or missing */
+    AV1RTP_ELEMENT_BAD = 17,      /* an element of no bytes, or past the payload's end, or missing */
+    AV1RTP_OBU_BROKEN = 18,       /* a finished OBU lacks its second byte, or its size field does not cover exactly the rest */
+    AV1RTP_FRAGMENT_TOO_LONG = 19, /* the new open fragment is longer than the store or its limit */
+    AV1RTP_OUTPUT_TOO_SHORT = 20, /* the output is too short for the OBUs of this packet */
+    /* trains */
+    AV1RTP_TRAIN_VERSION = 21,    /* empty, or of another version than 1 */
+    AV1RTP_TRAIN_CUT = 22,        /* ends inside a record */
+    AV1RTP_RECORD_TOO_SHORT = 23  /* a record that states a length below 3 */
+};
+
+/* ---- sending */
+
+/* The kept OBUs of a unit, as records of AV1RTP_OBU_NUMBERS numbers, first in `obus`; the numbers after them stay. An unfinished
+ * record at the end of a list does not count.
+ * answer: offset, OBUs. Refusals 2 to 8. */
+uint32_t av1rtp_list(const uint8_t *unit, size_t unit_length, uint32_t *obus, size_t obus_length, size_t answer[4]);
+
+/* The same, and the plan: which bytes of which kept OBUs go into which packet, as records of AV1RTP_PLAN_NUMBERS numbers, first in
+ * `plan`. There are at most as many records as the kept OBUs have bytes.
+ * answer: offset, OBUs, packets. Refusals 1 to 9. */
+uint32_t av1rtp_plan(size_t mtu, const uint8_t *unit, size_t unit_length, uint32_t *obus, size_t obus_length, uint32_t *plan,
+                     size_t plan_length, size_t answer[4]);
+
+/* The same, and the payloads, one right after the other from the start of `out`. That of packet k has 1 byte more than the last
+ * number of plan record k, and at most mtu bytes. Lists of as many records as the unit has bytes always do.
+ * answer: offset, OBUs, packets, bytes. Refusals 1 to 10. */
+uint32_t av1rtp_payload(size_t mtu, const uint8_t *unit, size_t unit_length, uint32_t *obus, size_t obus_length, uint32_t *plan,
+                        size_t plan_length, uint8_t *out, size_t out_length, size_t answer[4]);
+
+/* The aggregation header of packet k, from any OBU list and plan, which are as long as they are lent.
+ * answer: 0, the byte. Refusal 11. */
+uint32_t av1rtp_header(const uint32_t *obus, size_t obus_length, const uint32_t *plan, size_t plan_length, size_t k,
+                       size_t answer[4]);
+
+/* ---- receiving */
+
+/* Takes the packet of this number. What it finishes is in `out`: OBUs with size fields, one after the other. What stays open is in
+ * `store`. Give state and store to the next call as this one left them, and begin each train with {0, 0, 0}. In a state any first
+ * word but 0 means begun, and of the second the low 16 bits count. No packet of our sender is refused for space if the store is as
+ * long as the largest kept OBU and the output as that and four times the largest mtu.
+ * answer: 0, bytes handed out. Refusals 12 to 20. */
+uint32_t av1rtp_receive(size_t state[3], uint16_t number, const uint8_t *payload, size_t payload_length, uint8_t *store,
+                        size_t store_length, uint8_t *out, size_t out_length, size_t answer[4]);
+
+/* Element k of a payload, counted from 0, as a part of the payload. Start and length are 0 if there is no element k.
+ * answer: 0, elements, start, length. Refusals 13, 15, 16, 17. */
+uint32_t av1rtp_element(const uint8_t *payload, size_t payload_length, size_t k, size_t answer[4]);
+
+/* ---- trains: version byte 1, then records of a 16-bit length, a 16-bit number and a payload; the length counts number and payload */
+
+/* answer: 0, version. The first record begins at offset 1. Refusal 21. */
+uint32_t av1rtp_train_head(const uint8_t *train, size_t train_length, size_t answer[4]);
+
+/* The record that begins at `at`; the next one begins where its payload ends. At the end of the train all words are 0: no record
+ * has a payload of length 0. What stands before a refused record stands.
+ * answer: 0, number, payload start, payload length. Refusals 22, 23. */
+uint32_t av1rtp_train_record(const uint8_t *train, size_t train_length, size_t at, size_t answer[4]);
+
+/* The four bytes before a payload: `stated` is the payload's length plus 2, which is 3 to 65535. */
+void av1rtp_train_record_head(uint16_t stated, uint16_t number, uint8_t head[4]);
+
+/* ---- size fields */
+
+/* The size field (leb128) at the front of some bytes.
+ * answer: 0, value, bytes used. Refusals 5, 6. */
+uint32_t av1rtp_size_field(const uint8_t *bytes, size_t bytes_length, size_t answer[4]);
+
+#ifdef __cplusplus
+}
+#endif
+
+#endif

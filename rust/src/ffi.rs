@@ -1,0 +1,177 @@
+//! The exports of the static library, as include/av1rtp.h declares them, each behind a safe function over slices. This is the one
+//! place with `unsafe`: a slice is a valid pointer and its length, and Rust lets no two lent slices overlap where one is written.
+
+/// The words of an answer: an offset, and three of what was asked for.
+pub(crate) type Answer = [usize; 4];
+
+mod raw {
+    extern "C" {
+        pub(super) fn av1rtp_list(
+            unit: *const u8,
+            unit_length: usize,
+            obus: *mut u32,
+            obus_length: usize,
+            answer: *mut [usize; 4],
+        ) -> u32;
+        pub(super) fn av1rtp_plan(
+            mtu: usize,
+            unit: *const u8,
+            unit_length: usize,
+            obus: *mut u32,
+            obus_length: usize,
+            plan: *mut u32,
+            plan_length: usize,
+            answer: *mut [usize; 4],
+        ) -> u32;
+        pub(super) fn av1rtp_payload(
+            mtu: usize,
+            unit: *const u8,
+            unit_length: usize,
+            obus: *mut u32,
+            obus_length: usize,
+            plan: *mut u32,
+            plan_length: usize,
+            out: *mut u8,
+            out_length: usize,
+            answer: *mut [usize; 4],
+        ) -> u32;
+        pub(super) fn av1rtp_header(
+            obus: *const u32,
+            obus_length: usize,
+            plan: *const u32,
+            plan_length: usize,
+            k: usize,
+            answer: *mut [usize; 4],
+        ) -> u32;
+        pub(super) fn av1rtp_element(
+            payload: *const u8,
+            payload_length: usize,
+            k: usize,
+            answer: *mut [usize; 4],
+        ) -> u32;
+        pub(super) fn av1rtp_receive(
+            state: *mut [usize; 3],
+            number: u16,
+            payload: *const u8,
+            payload_length: usize,
+            store: *mut u8,
+            store_length: usize,
+            out: *mut u8,
+            out_length: usize,
+            answer: *mut [usize; 4],
+        ) -> u32;
+        pub(super) fn av1rtp_train_head(
+            train: *const u8,
+            train_length: usize,
+            answer: *mut [usize; 4],
+        ) -> u32;
+        pub(super) fn av1rtp_train_record(
+            train: *const u8,
+            train_length: usize,
+            at: usize,
+            answer: *mut [usize; 4],
+        ) -> u32;
+        pub(super) fn av1rtp_train_record_head(stated: u16, number: u16, head: *mut [u8; 4]);
+        pub(super) fn av1rtp_size_field(
+            bytes: *const u8,
+            bytes_length: usize,
+            answer: *mut [usize; 4],
+        ) -> u32;
+    }
+}
+
+pub(crate) fn list(unit: &[u8], obus: &mut [u32], answer: &mut Answer) -> u32 {
+    // SAFETY: pointers and lengths are of slices, and of an array of four words, that are lent for the call.
+    unsafe { raw::av1rtp_list(unit.as_ptr(), unit.len(), obus.as_mut_ptr(), obus.len(), answer) }
+}
+
+pub(crate) fn plan(mtu: usize, unit: &[u8], obus: &mut [u32], plan: &mut [u32], answer: &mut Answer) -> u32 {
+    let (obus_to, plan_to) = (obus.as_mut_ptr(), plan.as_mut_ptr());
+    // SAFETY: as in `list`.
+    unsafe {
+        raw::av1rtp_plan(mtu, unit.as_ptr(), unit.len(), obus_to, obus.len(), plan_to, plan.len(), answer)
+    }
+}
+
+pub(crate) fn payload(
+    mtu: usize,
+    unit: &[u8],
+    obus: &mut [u32],
+    plan: &mut [u32],
+    out: &mut [u8],
+    answer: &mut Answer,
+) -> u32 {
+    let (obus_to, plan_to, out_to) = (obus.as_mut_ptr(), plan.as_mut_ptr(), out.as_mut_ptr());
+    // SAFETY: as in `list`.
+    unsafe {
+        raw::av1rtp_payload(
+            mtu,
+            unit.as_ptr(),
+            unit.len(),
+            obus_to,
+            obus.len(),
+            plan_to,
+            plan.len(),
+            out_to,
+            out.len(),
+            answer,
+        )
+    }
+}
+
+pub(crate) fn header(obus: &[u32], plan: &[u32], k: usize, answer: &mut Answer) -> u32 {
+    // SAFETY: as in `list`.
+    unsafe { raw::av1rtp_header(obus.as_ptr(), obus.len(), plan.as_ptr(), plan.len(), k, answer) }
+}
+
+pub(crate) fn element(payload: &[u8], k: usize, answer: &mut Answer) -> u32 {
+    // SAFETY: as in `list`.
+    unsafe { raw::av1rtp_element(payload.as_ptr(), payload.len(), k, answer) }
+}
+
+pub(crate) fn receive(
+    state: &mut [usize; 3],
+    number: u16,
+    payload: &[u8],
+    store: &mut [u8],
+    out: &mut [u8],
+    answer: &mut Answer,
+) -> u32 {
+    let (store_to, out_to) = (store.as_mut_ptr(), out.as_mut_ptr());
+    // SAFETY: as in `list`; the state is an array of three words.
+    unsafe {
+        raw::av1rtp_receive(
+            state,
+            number,
+            payload.as_ptr(),
+            payload.len(),
+            store_to,
+            store.len(),
+            out_to,
+            out.len(),
+            answer,
+        )
+    }
+}
+
+pub(crate) fn train_head(train: &[u8], answer: &mut Answer) -> u32 {
+    // SAFETY: as in `list`.
+    unsafe { raw::av1rtp_train_head(train.as_ptr(), train.len(), answer) }
+}
+
+pub(crate) fn train_record(train: &[u8], at: usize, answer: &mut Answer) -> u32 {
+    // SAFETY: as in `list`.
+    unsafe { raw::av1rtp_train_record(train.as_ptr(), train.len(), at, answer) }
+}
+
+pub(crate) fn train_record_head(stated: u16, number: u16) -> [u8; 4] {
+    let mut head = [0; 4];
+    // SAFETY: the head is an array of four bytes.
+    unsafe { raw::av1rtp_train_record_head(stated, number, &mut head) }
+    head
+}
+
+pub(crate) fn size_field(bytes: &[u8], answer: &mut Answer) -> u32 {
+    // SAFETY: as in `list`.
+    unsafe { raw::av1rtp_size_field(bytes.as_ptr(), bytes.len(), answer) }
+}

@@ -1,0 +1,167 @@
+//! The calls as they are, over lists and buffers of the caller's, with no allocation. What a refusal leaves in them is said in
+//! `include/av1rtp.h`; on success only the first records or bytes change, as many as the answer says.
+//!
+//! A list is flat: [`OBU_NUMBERS`] or [`PLAN_NUMBERS`] numbers a record, and an unfinished record at its end does not count.
+use crate::ffi::{self, Answer};
+use crate::{Reason, Refusal};
+
+/// The numbers of a record in an OBU list: header, extension byte or 0, payload start, payload length, size.
+pub const OBU_NUMBERS: usize = 5;
+
+/// The numbers of a record in a plan: first OBU, elements, first offset, last size, packet size.
+pub const PLAN_NUMBERS: usize = 5;
+
+/// What the plan call finds.
+#[derive(Clone, Copy, Debug, PartialEq, Eq)]
+pub struct Planned {
+    /// Kept OBUs, whose records are first in the OBU list.
+    pub obus: usize,
+    /// Packets, whose records are first in the plan.
+    pub packets: usize,
+}
+
+/// What the payload call writes. The payload of packet k has one byte more than its record's packet size.
+#[derive(Clone, Copy, Debug, PartialEq, Eq)]
+pub struct Payloads {
+    /// Kept OBUs, whose records are first in the OBU list.
+    pub obus: usize,
+    /// Packets, whose records are first in the plan.
+    pub packets: usize,
+    /// Bytes of all payloads, which are first in the output.
+    pub bytes: usize,
+}
+
+/// What a receiver holds besides its store. The default is fresh, and every train begins with a fresh one.
+#[derive(Clone, Copy, Debug, Default, PartialEq, Eq)]
+pub struct State {
+    words: [usize; 3],
+}
+
+impl State {
+    /// A state of these parts: whether a packet was taken, the last number taken, and the length of the open fragment.
+    pub fn new(begun: bool, last: u16, open: usize) -> State {
+        State { words: [begun as usize, last as usize, open] }
+    }
+
+    /// Whether a packet was taken.
+    pub fn begun(&self) -> bool {
+        self.words[0] != 0
+    }
+
+    /// The last number taken, or 0.
+    pub fn last(&self) -> u16 {
+        self.words[1] as u16
+    }
+
+    /// The length of the open fragment.
+    pub fn open(&self) -> usize {
+        self.words[2]
+    }
+}
+
+/// An element's place in its payload, and how many elements there are.
+#[derive(Clone, Copy, Debug, PartialEq, Eq)]
+pub struct ElementPlace {
+    /// Elements of the payload.
+    pub elements: usize,
+    /// Where the element asked for starts; 0 if there is none.
+    pub start: usize,
+    /// Its length; 0 if there is none.
+    pub length: usize,
+}
+
+/// A train's record.
+#[derive(Clone, Copy, Debug, PartialEq, Eq)]
+pub struct RecordPlace {
+    /// The packet's number.
+    pub number: u16,
+    /// Where its payload starts in the train.
+    pub start: usize,
+    /// The payload's length, at least 1.
+    pub length: usize,
+}
+
+/// Makes a call, and takes its number and words for a result.
+fn answered(call: impl FnOnce(&mut Answer) -> u32) -> Result<[usize; 3], Refusal> {
+    let mut answer = [0; 4];
+    let number = call(&mut answer);
+    let [offset, a, b, c] = answer;
+    match Reason::from_number(number) {
+        Some(reason) => Err(Refusal::new(reason, offset)),
+        None => {
+            debug_assert_eq!(number, 0);
+            Ok([a, b, c])
+        }
+    }
+}
+
+/// The list call: how many OBUs of a unit are kept. Refusals 2 to 8.
+pub fn list(unit: &[u8], obus: &mut [u32]) -> Result<usize, Refusal> {
+    answered(|answer| ffi::list(unit, obus, answer)).map(|[obus, _, _]| obus)
+}
+
+/// The plan call: list and plan. Refusals 1 to 9.
+pub fn plan(mtu: usize, unit: &[u8], obus: &mut [u32], plan: &mut [u32]) -> Result<Planned, Refusal> {
+    answered(|answer| ffi::plan(mtu, unit, obus, plan, answer))
+        .map(|[obus, packets, _]| Planned { obus, packets })
+}
+
+/// The payload call: list, plan and payloads. Refusals 1 to 10.
+pub fn payload(
+    mtu: usize,
+    unit: &[u8],
+    obus: &mut [u32],
+    plan: &mut [u32],
+    out: &mut [u8],
+) -> Result<Payloads, Refusal> {
+    answered(|answer| ffi::payload(mtu, unit, obus, plan, out, answer))
+        .map(|[obus, packets, bytes]| Payloads { obus, packets, bytes })
+}
+
+/// The header call: the aggregation header of packet k, from lists of any numbers. Refusal 11.
+pub fn header(obus: &[u32], plan: &[u32], k: usize) -> Result<u8, Refusal> {
+    answered(|answer| ffi::header(obus, plan, k, answer)).map(|[byte, _, _]| byte as u8)
+}
+
+/// The element call: where element k lies. Refusals 13, 15, 16, 17.
+pub fn element(payload: &[u8], k: usize) -> Result<ElementPlace, Refusal> {
+    answered(|answer| ffi::element(payload, k, answer)).map(|[elements, start, length]| ElementPlace {
+        elements,
+        start,
+        length,
+    })
+}
+
+/// The receive call: takes one packet, and gives how many bytes of OBUs are first in `out`. Refusals 12 to 20.
+pub fn receive(
+    state: &mut State,
+    number: u16,
+    payload: &[u8],
+    store: &mut [u8],
+    out: &mut [u8],
+) -> Result<usize, Refusal> {
+    answered(|answer| ffi::receive(&mut state.words, number, payload, store, out, answer))
+        .map(|[bytes, _, _]| bytes)
+}
+
+/// The version of a train. Refusal 21.
+pub fn train_head(train: &[u8]) -> Result<u8, Refusal> {
+    answered(|answer| ffi::train_head(train, answer)).map(|[version, _, _]| version as u8)
+}
+
+/// The record of a train that begins at `at`, or nothing at the end. Refusals 22 and 23.
+pub fn train_record(train: &[u8], at: usize) -> Result<Option<RecordPlace>, Refusal> {
+    let words = answered(|answer| ffi::train_record(train, at, answer))?;
+    let [number, start, length] = words;
+    Ok((length > 0).then_some(RecordPlace { number: number as u16, start, length }))
+}
+
+/// The four bytes before a payload; `stated` is its length plus 2.
+pub fn train_record_head(stated: u16, number: u16) -> [u8; 4] {
+    ffi::train_record_head(stated, number)
+}
+
+/// The value of the size field (leb128) at the front of some bytes, and the bytes that it takes. Refusals 5 and 6.
+pub fn size_field(bytes: &[u8]) -> Result<(u32, usize), Refusal> {
+    answered(|answer| ffi::size_field(bytes, answer)).map(|[value, used, _]| (value as u32, used))
+}

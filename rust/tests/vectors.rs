@@ -1,0 +1,145 @@
+//! Replays the fixed list of answers that `crates/vectors` replays; the expected answers come from `compare/rules.py`.
+mod common;
+use av1rtp::{lent, Obu, PacketMetadata, Reason};
+use common::{ample, hex, repository, unhex};
+use std::fs::read_to_string;
+
+/// What stands in a lent list or output before a call.
+const OLD_NUMBER: u32 = 0xDEAD_BEEF;
+const OLD_BYTE: u8 = 0xA5;
+
+struct Case {
+    mtu: usize,
+    obus: usize,
+    plan: usize,
+    output: usize,
+    unit: Vec<u8>,
+}
+
+/// A line: mtu, numbers of the OBU list and of the plan list, bytes of the output, and the unit in hexadecimal or `-`; `*` and a
+/// number repeat its last byte until it has so many.
+fn case_of(line: &str) -> Case {
+    let words: Vec<&str> = line.split(' ').collect();
+    let [mtu, obus, plan, output] = [0, 1, 2, 3].map(|i| words[i].parse().unwrap());
+    let (text, length) = match words[4].split_once('*') {
+        Some((text, length)) => (text, Some(length.parse().unwrap())),
+        None => (words[4], None),
+    };
+    let mut unit = if text == "-" { Vec::new() } else { unhex(text) };
+    if let Some(length) = length {
+        unit.resize(length, *unit.last().unwrap());
+    }
+    Case { mtu, obus, plan, output, unit }
+}
+
+fn records(list: &[u32]) -> String {
+    let record = |r: &[u32]| r.iter().map(u32::to_string).collect::<Vec<_>>().join(",");
+    list.chunks(5).map(record).collect::<Vec<_>>().join(";")
+}
+
+/// The records of the case's OBU list and plan.
+fn filled_lists(case: &Case) -> (Vec<u32>, Vec<u32>) {
+    let plan = match av1rtp::plan(&case.unit, case.mtu) {
+        Ok(plan) => plan,
+        Err(_) => return Default::default(),
+    };
+    let obu = |o: &Obu| [o.header as usize, o.extension as usize, o.start, o.length, o.size];
+    let packet = |p: &PacketMetadata| {
+        [p.first_obu_index, p.num_obu_elements, p.first_obu_offset, p.last_obu_size, p.packet_size]
+    };
+    let flat = |records: Vec<[usize; 5]>| records.iter().flatten().map(|&n| n as u32).collect();
+    (flat(plan.obus.iter().map(obu).collect()), flat(plan.packets.iter().map(packet).collect()))
+}
+
+/// The payload call's answer as a line, and whether everything lent is as the rules say (C5 to C10).
+fn answer_to(case: &Case) -> String {
+    let mut obus = vec![OLD_NUMBER; case.obus];
+    let mut plan = vec![OLD_NUMBER; case.plan];
+    let mut out = vec![OLD_BYTE; case.output];
+    let answer = lent::payload(case.mtu, &case.unit, &mut obus, &mut plan, &mut out);
+    let (listed, planned, bytes) = match answer {
+        Ok(written) => (5 * written.obus, 5 * written.packets, written.bytes),
+        Err(refusal) => {
+            let filled = |list: &[u32]| list.iter().position(|&n| n == OLD_NUMBER).unwrap_or(list.len());
+            let listed = if refusal.number() >= 9 { filled(&obus) } else { 0 };
+            let planned = if refusal.number() >= 10 { filled(&plan) } else { 0 };
+            (listed, planned, 0)
+        }
+    };
+    if answer.is_err() {
+        let (all_obus, all_packets) = filled_lists(case);
+        assert!(listed == 0 || obus[..listed] == all_obus);
+        assert!(planned == 0 || plan[..planned] == all_packets);
+    }
+    assert!(obus[listed..].iter().all(|&n| n == OLD_NUMBER));
+    assert!(plan[planned..].iter().all(|&n| n == OLD_NUMBER));
+    assert!(out[bytes..].iter().all(|&b| b == OLD_BYTE));
+    let written = match answer {
+        Ok(written) => written,
+        Err(refusal) => return format!("refused {} {}", refusal.number(), refusal.offset()),
+    };
+    let (obus, plan) = (&obus[..listed], &plan[..planned]);
+    let mut line = format!("obus {}", written.obus);
+    if written.obus > 0 {
+        line += &format!(" {}", records(obus));
+    }
+    line += &format!(" packets {}", written.packets);
+    if written.packets > 0 {
+        let headers = (0..written.packets).map(|k| format!("{:02X}", lent::header(obus, plan, k).unwrap()));
+        let mut at = 0;
+        let payloads = plan.chunks(5).map(|r| {
+            at += r[4] as usize + 1;
+            hex(&out[at - r[4] as usize - 1..at])
+        });
+        let payloads: Vec<String> = payloads.collect();
+        let headers: Vec<String> = headers.collect();
+        line += &format!(" {} headers {} payloads {}", records(plan), headers.join(","), payloads.join(","));
+        assert_eq!(at, bytes);
+    }
+    line
+}
+
+fn cases() -> Vec<(Case, String)> {
+    let given = read_to_string(repository("crates/vectors/stdin")).unwrap();
+    let wanted = read_to_string(repository("crates/vectors/stdout")).unwrap();
+    assert_eq!(given.lines().count(), wanted.lines().count());
+    given.lines().map(case_of).zip(wanted.lines().map(str::to_string)).collect()
+}
+
+#[test]
+fn fixed_list() {
+    let cases = cases();
+    assert!(cases.len() > 1000);
+    for (i, (case, wanted)) in cases.iter().enumerate() {
+        assert!(answer_to(case) == *wanted, "line {}", i + 1);
+    }
+}
+
+/// With lists that grow, the payloads are those of ample lists, and 8, 9 and 10 are never given.
+#[test]
+fn fixed_list_with_lists_that_grow() {
+    let mut payloader = av1rtp::Payloader::new();
+    for (i, (case, _)) in cases().iter().enumerate() {
+        let wanted = ample(&case.unit, case.mtu);
+        assert!(av1rtp::payload(&case.unit, case.mtu) == wanted, "line {}", i + 1);
+        assert!(payloader.payload(case.mtu, &case.unit) == wanted, "line {}", i + 1);
+        match (av1rtp::plan(&case.unit, case.mtu), &wanted) {
+            (Ok(plan), Ok(payloads)) => {
+                let sizes: Vec<usize> = plan.packets.iter().map(|p| p.packet_size + 1).collect();
+                assert!(sizes == payloads.iter().map(Vec::len).collect::<Vec<_>>(), "line {}", i + 1);
+                assert_eq!(av1rtp::list(&case.unit), Ok(plan.obus));
+            }
+            (Err(refusal), Err(wanted)) => assert_eq!(refusal, *wanted),
+            (plan, _) => panic!("line {}: {plan:?}", i + 1),
+        }
+    }
+}
+
+#[test]
+fn header_without_a_packet() {
+    let reason = |obus: &[u32], plan: &[u32], k| lent::header(obus, plan, k).unwrap_err().reason();
+    assert_eq!(reason(&[], &[], 0), Reason::NoSuchPacket);
+    assert_eq!(reason(&[48, 0, 0, 0, 1], &[0, 1, 0, 1, 1], 1), Reason::NoSuchPacket);
+    assert_eq!(reason(&[48, 0, 0, 0, 1], &[0, 0, 0, 1, 1], 0), Reason::NoSuchPacket);
+    assert_eq!(reason(&[48, 0, 0, 0, 1], &[u32::MAX, u32::MAX, 0, 1, 1], 0), Reason::NoSuchPacket);
+}
