@@ -8,7 +8,7 @@ use lib.ListN.{length, getD, take, drop, length-drop}
 use lib.Seq.{getD-drop}
 use lib.Dec.{ltb, eqb}
 use borrow.Author.Tests.{lt-ltb, le-ltb, ltb-true, ltb-false, eq-eqb, ne-eqb}
-use Rattle.base.proofs.Tests.{by-cond}
+use Rattle.base.proofs.Tests.{by-cond, or-second}
 use Rattle.train.specs.Bytes.{valueAfter, valueOf}
 use Rattle.train.proofs.Numbers.{two-value}
 use Rattle.listing.specs.Input.{version, headBytes, unitStore, Head, bad, states, mtuIn, lengthIn, isBad, headOf, lengthBy, badInput, good, inputRead}
@@ -52,10 +52,6 @@ module _ (l : List ℕ) (h : headBytes ≤ length l) where
     head-good k = rw (le-ltb (length l) headBytes h, eq-eqb (getD l 0 0) version e, le-ltb unitStore (lengthIn l) k)
 
 -- a stated length fits the store
-or-false : (a b : Bool) → (a || b) ≡ false → b ≡ false
-or-false true b e = cc
-or-false false b e = e
-
 abbrev Fits : Head → Type 0
 Fits x = lengthBy x ≤ unitStore
 
@@ -63,7 +59,7 @@ pub head-fits : (l : List ℕ) → lengthBy (headOf l) ≤ unitStore
 unfolding headOf
 head-fits l =
     by-cond Fits (isBad l) _ _ (λ t. omega arith)
-    (λ t. ltb-false unitStore (lengthIn l) (or-false (ltb (length l) headBytes || not (eqb (getD l 0 0) version)) (ltb unitStore (lengthIn l)) t))
+    (λ t. ltb-false unitStore (lengthIn l) (or-second (ltb (length l) headBytes || not (eqb (getD l 0 0) version)) (ltb unitStore (lengthIn l)) t))
 
 -- ---- the input, by what was read of it
 

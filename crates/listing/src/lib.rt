@@ -194,17 +194,11 @@ fn print_plan(mtu: usize, unit: &[u8], obus: &mut [u32], plan: &mut [u32]) {
     }
 }
 
-fn smaller(a: usize, b: usize) -> usize
-    ensures { λ r. ⌜ (r ≤ a) × (r ≤ b) ⌝ }
-{
-    if a < b { a } else { b }
-}
-
 // Reads n bytes to the front of a store, as far as they come and as it has space, and returns how many came.
 pub fn read_front(store: &mut [u8], n: usize) -> usize
     ensures { λ r. ⌜ Counts r (now (store .exit)) ⌝ }
 {
-    let most = smaller(n, store.len());
+    let most = base::smaller(n, store.len());
     io::read_full(STDIN_FILENO, &mut store[..most])
 }
 

@@ -7,15 +7,11 @@ use mathlib.Core.Bool.{Bool, true, false, cond, _||_, not}
 use lib.ListN.{length, getD, take, drop, length-drop}
 use lib.Seq.{getD-drop}
 use lib.Dec.{ltb, eqb}
-use Rattle.base.proofs.Tests.{split-on}
+use Rattle.base.proofs.Tests.{split-on, or-second}
 use borrow.Author.Tests.{ltb-false, lt-ltb, le-ltb, eq-eqb, ne-eqb}
 use Rattle.train.specs.Bytes.{valueAfter, valueOf}
 use Rattle.train.proofs.Numbers.{two-value}
 use Rattle.packing.specs.Pack.{packVersion, headWidth, unitWidth, unitStore, Head, found, none, headIn, Length, over, stated, cut, lengthIn}
-
-or-second : (a b : Bool) → a || b ≡ false → b ≡ false
-or-second true b e = cc
-or-second false b e = e
 
 -- ---- numbers in bytes
 

@@ -1,19 +1,12 @@
 // Runs of `planlist` beyond its example (G8 to G11): each case is a length of 16 bits, the higher byte first, and so many
 // bytes that `planlist` would read; what it would print is printed for each, one after the other.
 use libc::STDIN_FILENO;
-ghost use Prim.Native.Nat.{_≤_};
 
 // More than any case has.
 const INPUT_STORE: usize = 65535;
 
 // More than there are cases.
 const MOST_CASES: usize = 1000;
-
-fn smaller(a: usize, b: usize) -> usize
-    ensures { λ r. ⌜ (r ≤ a) × (r ≤ b) ⌝ }
-{
-    if a < b { a } else { b }
-}
 
 // A number of two bytes, the higher first.
 fn two_bytes(high: u8, low: u8) -> usize {
@@ -22,9 +15,9 @@ fn two_bytes(high: u8, low: u8) -> usize {
 
 // One case: as many bytes as `planlist` would read for the head and for the unit, and whether there are more.
 fn run(input: &[u8], obus: &mut [u32], plan: &mut [u32]) {
-    let head = smaller(input.len(), listing::HEAD_BYTES);
+    let head = base::smaller(input.len(), listing::HEAD_BYTES);
     let length = listing::unit_length(&input[..head]);
-    let end = head + smaller(length, input.len() - head);
+    let end = head + base::smaller(length, input.len() - head);
     listing::print_listing(
         &input[..head],
         &input[head..end],

@@ -10,7 +10,6 @@ use Rattle.listing.proofs.read_front.Tie as tie
 use Rattle.listing.proofs.read_front.Reads as reads
 use Rattle.listing.proofs.read_front.Lts as lts
 use Rattle.io.proofs.read_full.Reads as read-full-reads
-use Rattle.listing.proofs.smaller.Reads as smaller-reads
 
 -- src/lib.rt:219:9
 smaller-requires : tie.Need-smaller-requires

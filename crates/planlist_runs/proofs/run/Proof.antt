@@ -8,7 +8,6 @@ use Rattle.planlist_runs.proofs.run.Reads as reads
 use Rattle.planlist_runs.proofs.run.Lts as lts
 use Rattle.listing.proofs.print_listing.Reads as print-listing-reads
 use Rattle.listing.proofs.unit_length.Reads as unit-length-reads
-use Rattle.planlist_runs.proofs.smaller.Reads as smaller-reads
 
 -- src/main.rt:20:9
 smaller-requires : tie.Need-smaller-requires
