@@ -12,7 +12,7 @@
 use mathlib.Core.Path.{_≡_, refl, sym, ap, subst, _∙_}
 use Prim.Native.Nat.{ℕ, _≤_}
 use native.Mathlib.Omega.{arith}
-use mathlib.Core.List.{List, [], _∷_, _++_, append-assoc, flatMap}
+use mathlib.Core.List.{List, [], _∷_, _++_, flatMap}
 use mathlib.Core.Bool.{Bool, true, false, cond, _||_}
 use lib.ListN.{length, drop}
 use lib.Seq.{take-append-seam}
@@ -32,23 +32,14 @@ use Rattle.receiver.specs.declared.State.{State}
 use Rattle.receiver.specs.declared.Received.{Received}
 use Rattle.receiver.proofs.Cursors.{payload-some, payload-small}
 use Rattle.receiver.proofs.Lists.{front-length}
+use Rattle.receiver.proofs.Turns.{before-none, before-assoc}
 use Rattle.receiver.proofs.Takes.{fitted-all}
 
 -- ---- what goes out for OBUs one after the other
 
-before-assoc : (x y z : Answer (List ℕ)) → before (before x y) z ≡ before x (before y z)
-before-assoc (refused n at) y z = refl
-before-assoc (given a) (refused n at) z = refl
-before-assoc (given a) (given b) (refused n at) = refl
-before-assoc (given a) (given b) (given c) = ap given (append-assoc a b c)
-
-before-nothing : (x : Answer (List ℕ)) → before (given []) x ≡ x
-before-nothing (given b) = refl
-before-nothing (refused n at) = refl
-
 pub wires-append : (l m : List (List ℕ)) → wires (l ++ m) ≡ before (wires l) (wires m)
 unfolding wires
-wires-append [] m = sym (before-nothing (wires m))
+wires-append [] m = sym (before-none (wires m))
 wires-append (o ∷ l) m = ap (before (wire o)) (wires-append l m) ∙ sym (before-assoc (wire o) (wires l) (wires m))
 
 pub wires-each : (give : List ℕ → List ℕ) (os : List (List ℕ)) → All (λ (o : List ℕ). wire o ≡ given (give o)) os → wires os ≡ given (flatMap give os)

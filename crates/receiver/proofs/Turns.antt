@@ -52,13 +52,15 @@ wire-grows all bytes small e = go (wholeOf all) refl
 
 -- ---- answers one before the other
 
-before-none : (x : Answer (List ℕ)) → x ≡ before (given []) x
+pub before-none : (x : Answer (List ℕ)) → before (given []) x ≡ x
 before-none (given b) = refl
 before-none (refused n at) = refl
 
-before-more : (a b : List ℕ) (x : Answer (List ℕ)) → before (given a) (before (given b) x) ≡ before (given (a ++ b)) x
-before-more a b (given c) = ap given (sym (append-assoc a b c))
-before-more a b (refused n at) = refl
+pub before-assoc : (x y z : Answer (List ℕ)) → before (before x y) z ≡ before x (before y z)
+before-assoc (refused n at) y z = refl
+before-assoc (given a) (refused n at) z = refl
+before-assoc (given a) (given b) (refused n at) = refl
+before-assoc (given a) (given b) (given c) = ap given (append-assoc a b c)
 
 -- what was counted
 pub counted-given : (w : Answer (List ℕ)) (n : ℕ) → given n ≡ counted w → (bytes : List ℕ) × (w ≡ given bytes) × (n ≡ length bytes)
@@ -128,7 +130,7 @@ handing-first payload store cursor from to joined write out c f j l =
       same = refl;
       count = refl;
       wrote = same write;
-      all = before-none (wires (between store joined payload from to));
+      all = sym (before-none (wires (between store joined payload from to)));
     }
   where
     same : (t : Bool) → out ≡ cond t out out
@@ -211,7 +213,7 @@ module _ (payload store : List ℕ) (from to joined : ℕ) (write : Bool) (out�
           all =
               all-next
               ∙ ap (λ (x : Answer (List ℕ)). before (given (s .done)) (before x (wires (between store 0 payload (i + 1) to)))) e
-              ∙ before-more (s .done) b (wires (between store 0 payload (i + 1) to));
+              ∙ sym (before-assoc (given (s .done)) (given b) (wires (between store 0 payload (i + 1) to)));
         }
       where
         written : (t : Bool) → out ≡ cond t (front (s .done) out₀) out₀ → cond t (replaced out bytes b) out ≡ cond t (front (s .done ++ b) out₀) out₀
