@@ -1,5 +1,5 @@
-// What every other crate stands on: the refusals R1 to R23 by name, a record of five numbers stored in a lent flat list, and
-// bytes copied.
+// What every other crate stands on: the refusals R1 to R23 by name, a record of five numbers stored in a lent flat list, the
+// smaller of two numbers, and bytes copied.
 ghost use mathlib.Core.Path.{_≡_};
 ghost use Prim.Native.Nat.{_+_, _≤_, min};
 ghost use mathlib.Core.List.{[], _∷_};
@@ -76,6 +76,13 @@ pub fn put_five(list: &mut [u32], at: usize, a: u32, b: u32, c: u32, d: u32, e: 
     list[at + 4] = e;
 }
 
+// The smaller of two numbers.
+pub fn smaller(a: usize, b: usize) -> usize
+    ensures { λ r. ⌜ r ≡ min a b ⌝ }
+{
+    if a < b { a } else { b }
+}
+
 // The bytes of a block: as many as the largest payload has, and a few more.
 const BLOCK: usize = 65536;
 
@@ -99,12 +106,6 @@ fn copy_block(from: &[u8], start: usize, n: usize, to: &mut [u8], at: usize)
     let mut held = [0u8; BLOCK];
     copy_each(from, start, n, &mut held, 0);
     copy_each(&held, 0, n, to, at);
-}
-
-fn smaller(a: usize, b: usize) -> usize
-    ensures { λ r. ⌜ r ≡ min a b ⌝ }
-{
-    if a < b { a } else { b }
 }
 
 // Copies the n bytes of `from` at `start` to the cursor `at` of `to`, block after block, and returns the cursor after them.

@@ -9,9 +9,9 @@ use lib.ListN.{length}
 use lib.Dec.{ltb, eqb}
 use borrow.Author.Tests.{ltb-true, ltb-false, le-ltb, eq-eqb}
 use Rattle.base.specs.Lists.{keep, All}
+use Rattle.base.proofs.Lists.{all-snoc}
 use Rattle.base.proofs.Tests.{by-cond}
 use Rattle.lawful.specs.Train.{Piece, cut, inner, final, packets, runOf, Portion, portion, obus, obusIn, whole}
-use Rattle.lawful.proofs.Lists.{all-snoc}
 use Rattle.lawful.proofs.Reading.{carried-count}
 use Rattle.delivery.specs.Arrivals.{timely, NearTo, Near, inOrder}
 use Rattle.delivery.specs.Calls.{takes, takenOr14}

@@ -12,7 +12,7 @@ use lib.Seq.{getD-drop}
 use lib.Dec.{ltb, eqb}
 use Rattle.base.specs.Answers.{Answer, given, refused}
 use Rattle.base.specs.Lists.{All}
-use Rattle.base.proofs.Lists.{all-map, flatMap-append, flatMap-one}
+use Rattle.base.proofs.Lists.{all-map, flatMap-append, flatMap-one, all-append, all-left, all-right, all-both, all-of-map}
 use Rattle.base.proofs.Tests.{by-cond}
 use Rattle.obu.specs.Unit.{unitLimit, obuNumbers, Placed, keptOf, obusOf}
 use Rattle.obu.specs.Wire.{wireOf}
@@ -39,7 +39,6 @@ use Rattle.lawful.specs.Train as lawful
 use Rattle.lawful.specs.Train.{runOf}
 use Rattle.lawful.specs.Payload.{CarryAll}
 use Rattle.lawful.specs.Lawful.{Given}
-use Rattle.lawful.proofs.Lists.{all-append, all-left, all-right, all-both, all-of-map}
 use Rattle.delivery.specs.Arrivals.{number, inOrder}
 use Rattle.delivery.specs.Calls.{takes, calls, handedOut, verdicts}
 use Rattle.delivery.specs.Units.{Sending, Accepted, payloadsSent, UnitSpace}

@@ -9,7 +9,7 @@ use lib.Dec.{eqb}
 use borrow.Author.Tests.{eqb-true, eqb-false}
 use Rattle.base.specs.Answers.{Answer, given, refused}
 use Rattle.base.specs.Lists.{replaced}
-use Rattle.base.proofs.Tests.{by-cond}
+use Rattle.base.proofs.Tests.{by-cond, cond-same}
 use Rattle.leb128.specs.Field.{encode, largestValue}
 use Rattle.leb128.proofs.Theorems.{size-most}
 use Rattle.obu.specs.Header.{typeOf, extensionBit, headerSize, marked, drops}
@@ -99,11 +99,7 @@ module _ (w : Answer (List ℕ)) (out : List ℕ) (at : ℕ) (write : Bool) wher
       same false = refl
 
   pub finished-bad : (n a : ℕ) → w ≡ refused n a → Finished w out at write (refused n a) out
-  finished-bad n a e = rw e (refl, same write)
-    where
-      same : (t : Bool) → out ≡ cond t out out
-      same true = refl
-      same false = refl
+  finished-bad n a e = rw e (refl, sym (cond-same write out))
 
   pub finished-some : (bytes after : List ℕ) (n : ℕ) → w ≡ given bytes → n ≡ length bytes → after ≡ cond write (replaced out at bytes) out
       → Finished w out at write (given n) after

@@ -20,7 +20,7 @@ use Rattle.element.specs.declared.Part.{Part}
 use Rattle.element.proofs.Laws.{Lies}
 use Rattle.handing.specs.Handing.{fragmentLimit, before, wires}
 use Rattle.handing.specs.Inside.{across, counted, RoomAt, putAt, putFirst, partsOf, cursorOf, led, between}
-use Rattle.handing.proofs.Wires.{before-assoc, before-nothing}
+use Rattle.handing.proofs.Wires.{before-assoc, before-none}
 use Rattle.handing.proofs.Cursors.{cursor-next, payload-small, part-at}
 use Rattle.handing.proofs.Across.{across-length}
 use Rattle.handing.proofs.Framing.{out-length, whole-spans, wire-dropped, wire-kept, wire-broken}
@@ -120,7 +120,7 @@ handing-first payload store cursor from to joined write out c f j l =
       same = refl;
       count = refl;
       wrote = same write;
-      all = sym (before-nothing (wires (between store joined payload from to)));
+      all = sym (before-none (wires (between store joined payload from to)));
     }
   where
     same : (t : Bool) → out ≡ cond t out out

@@ -13,13 +13,13 @@ before-assoc (given a) (refused n at) z = refl
 before-assoc (given a) (given b) (refused n at) = refl
 before-assoc (given a) (given b) (given c) = ap given (append-assoc a b c)
 
-pub before-nothing : (x : Answer (List ℕ)) → before (given []) x ≡ x
-before-nothing (given b) = refl
-before-nothing (refused n at) = refl
+pub before-none : (x : Answer (List ℕ)) → before (given []) x ≡ x
+before-none (given b) = refl
+before-none (refused n at) = refl
 
 pub wires-append : (l m : List (List ℕ)) → wires (l ++ m) ≡ before (wires l) (wires m)
 unfolding wires
-wires-append [] m = sym (before-nothing (wires m))
+wires-append [] m = sym (before-none (wires m))
 wires-append (o ∷ l) m = ap (before (wire o)) (wires-append l m) ∙ sym (before-assoc (wire o) (wires l) (wires m))
 
 pub wires-each : (give : List ℕ → List ℕ) (os : List (List ℕ)) → All (λ (o : List ℕ). wire o ≡ given (give o)) os → wires os ≡ given (flatMap give os)

@@ -4,7 +4,7 @@ use element::ElementRead;
 use obu::Head;
 use obu::ObuRead;
 ghost use mathlib.Core.Path.{_≡_};
-ghost use Prim.Native.Nat.{_+_, _-_, _≤_, _<_, min};
+ghost use Prim.Native.Nat.{_+_, _-_, _≤_, _<_};
 ghost use mathlib.Core.Bool.{true, cond};
 ghost use mathlib.Core.List.{_∷_};
 ghost use lib.ListN.{length, take, drop};
@@ -33,13 +33,6 @@ pub struct Fragment {
 pub enum HandedOut {
     Bytes(usize),
     Refused(Refusal),
-}
-
-// The smaller of two numbers.
-fn smaller(a: usize, b: usize) -> usize
-    ensures { λ r. ⌜ r ≡ min a b ⌝ }
-{
-    if a <= b { a } else { b }
 }
 
 // Copies `size` bytes of one slice, from `start` on, into another, from `at` on.
@@ -78,8 +71,8 @@ fn judge_across(store: &[u8], payload: &[u8], f: Fragment) -> ObuRead
     let start = f.start;
     let size = f.size;
     let mut head = [0u8; 10];
-    let a = smaller(kept, HEAD_BYTES);
-    let b = smaller(size, HEAD_BYTES - a);
+    let a = base::smaller(kept, HEAD_BYTES);
+    let b = base::smaller(size, HEAD_BYTES - a);
     copy(&mut head, 0, store, 0, a);
     copy(&mut head, a, payload, start, b);
     let n = a + b;

@@ -7,7 +7,7 @@ use mathlib.Core.Bool.{Bool, true, false, cond}
 use lib.ListN.{length, getD, take, drop, length-take, length-drop}
 use lib.Dec.{ltb, eqb}
 use borrow.Author.Tests.{lt-ltb, le-ltb, ltb-true, ltb-false, ne-eqb}
-use Rattle.base.proofs.Tests.{split-on}
+use Rattle.base.proofs.Tests.{split-on, cond-same}
 use Rattle.train.specs.Bytes.{valueAfter}
 use Rattle.listing.specs.Input.{headBytes, Head, bad, states, headOf, lengthBy, Input, badInput, good, inputBy, inputOf, inputRead}
 
@@ -23,13 +23,9 @@ head-front (a ∷ b ∷ c ∷ d ∷ e ∷ []) = refl
 head-front (a ∷ b ∷ c ∷ d ∷ e ∷ f ∷ []) = refl
 head-front (a ∷ b ∷ c ∷ d ∷ e ∷ f ∷ g ∷ l) = rw (le-ltb (length (a ∷ b ∷ c ∷ d ∷ e ∷ f ∷ g ∷ l)) headBytes (omega arith))
 
-same : (t : Bool) (x : Input) → cond t x x ≡ x
-same true x = refl
-same false x = refl
-
 module _ (l : List ℕ) where
   by-head : (x : Head) → cond (ltb (headBytes + lengthBy x) (length l)) badInput (inputBy (length (take (lengthBy x) (drop headBytes l))) x) ≡ inputBy (length (drop headBytes l)) x
-  by-head bad = same (ltb (headBytes + 0) (length l)) badInput
+  by-head bad = cond-same (ltb (headBytes + 0) (length l)) badInput
   by-head (states s) = split-on (ltb (headBytes + s .length) (length l))
       (λ t.
       let h : headBytes + s .length < length l = ltb-true (headBytes + s .length) (length l) t in

@@ -16,7 +16,6 @@ use Rattle.base.proofs.copy_bytes.Reads as copy-bytes-reads
 use Rattle.obu.proofs.header_size.Reads as header-size-reads
 use Rattle.payloader.proofs.beyond.Reads as beyond-reads
 use Rattle.payloader.proofs.put_head.Reads as put-head-reads
-use Rattle.payloader.proofs.smaller.Reads as smaller-reads
 
 header-size-requires : tie.Need-header-size-requires
 header-size-requires c κs = search needs
