@@ -2,7 +2,6 @@
 use Prim.Native.Nat.{ℕ, _+_, _*_, _≤_}
 use mathlib.Core.Path.{_≡_}
 use mathlib.Core.List.{List, [], map}
-use mathlib.Core.Bool.{Bool, cond}
 use lib.ListN.{length}
 use Rattle.base.specs.Answers.{given}
 use Rattle.base.specs.Lists.{keep, All}

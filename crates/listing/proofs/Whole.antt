@@ -1,15 +1,14 @@
 -- What is read of an input in three parts decides the same as the input as a whole. Assumes nothing.
-use mathlib.Core.Path.{_≡_, refl, sym, ap, _∙_}
-use Prim.Native.Nat.{ℕ, _+_, _-_, _≤_, _<_}
+use mathlib.Core.Path.{_≡_, refl}
+use Prim.Native.Nat.{ℕ, _+_, _≤_, _<_}
 use native.Mathlib.Omega.{arith}
 use mathlib.Core.List.{List, [], _∷_}
-use mathlib.Core.Bool.{Bool, true, false, cond}
-use lib.ListN.{length, getD, take, drop, length-take, length-drop}
-use lib.Dec.{ltb, eqb}
-use borrow.Author.Tests.{lt-ltb, le-ltb, ltb-true, ltb-false, ne-eqb}
+use mathlib.Core.Bool.{cond}
+use lib.ListN.{length, take, drop, length-take, length-drop}
+use lib.Dec.{ltb}
+use borrow.Author.Tests.{le-ltb, ltb-true, ltb-false, ne-eqb}
 use Rattle.base.proofs.Tests.{split-on, cond-same}
-use Rattle.train.specs.Bytes.{valueAfter}
-use Rattle.listing.specs.Input.{headBytes, Head, bad, states, headOf, lengthBy, Input, badInput, good, inputBy, inputOf, inputRead}
+use Rattle.listing.specs.Input.{headBytes, Head, bad, states, headOf, lengthBy, badInput, inputBy, inputOf, inputRead}
 
 -- the head is decided by its bytes
 head-front : (l : List ℕ) → headOf (take headBytes l) ≡ headOf l

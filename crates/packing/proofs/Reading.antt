@@ -1,16 +1,15 @@
 -- The head and a unit's length, case by case. Assumes nothing.
-use mathlib.Core.Path.{_≡_, refl, sym, ap, ap₂, _∙_}
+use mathlib.Core.Path.{_≡_, refl, sym, ap₂, _∙_}
 use Prim.Native.Nat.{ℕ, _≤_, _<_}
 use native.Mathlib.Omega.{arith}
 use mathlib.Core.List.{List, [], _∷_}
-use mathlib.Core.Bool.{Bool, true, false, cond, _||_, not}
+use mathlib.Core.Bool.{cond, _||_}
 use lib.ListN.{length, getD, take, drop}
-use lib.Dec.{ltb, eqb}
+use lib.Dec.{ltb}
 use Rattle.base.proofs.Tests.{split-on, or-second}
 use borrow.Author.Tests.{ltb-false, lt-ltb, le-ltb, eq-eqb, ne-eqb}
 use Rattle.train.specs.Bytes.{valueOf}
-use Rattle.packing.specs.Pack.{packVersion, headWidth, unitWidth, unitStore, Head, found, none, headIn, Length, over, stated, cut, lengthIn}
-
+use Rattle.packing.specs.Pack.{packVersion, headWidth, unitWidth, unitStore, found, none, headIn, over, stated, cut, lengthIn}
 
 -- ---- the head
 

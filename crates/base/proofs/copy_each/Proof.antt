@@ -8,8 +8,6 @@ use lib.Seq.{sets}
 use Rattle.base.proofs.Lists.{copy-more}
 use Rattle.base.proofs.copy_each.Statement.{statement}
 use Rattle.base.proofs.copy_each.Tie as tie
-use Rattle.base.proofs.copy_each.Reads as reads
-use Rattle.base.proofs.copy_each.Lts as lts
 
 abbrev Inv-loop : tie.InvT-loop
 Inv-loop from start n to₀ at i₀ to i = (i ≤ n) × (length to ≡ length to₀) × (to ≡ sets to₀ at (take i (drop start from)))

@@ -1,4 +1,4 @@
-use mathlib.Core.Path.{_≡_, sym, ap, _∙_}
+use mathlib.Core.Path.{sym, ap, _∙_}
 use Rattle.listing.specs.Paper.{paperHead}
 use Rattle.listing.proofs.Inputs.{input-more, input-bad, input-good, input-other}
 use borrow.Author.Needs.{needs}

@@ -1,10 +1,10 @@
 use mathlib.Core.Path.{_≡_, sym, ap, ap₂, _∙_}
-use Prim.Native.Nat.{ℕ, _+_, _*_, _≤_}
+use Prim.Native.Nat.{ℕ, _*_, _≤_}
 use native.Mathlib.Omega.{arith}
 use mathlib.Core.List.{List}
 use lib.ListN.{length, take}
 use lib.Seq.{length-take-le}
-use Rattle.base.specs.Answers.{given, refused}
+use Rattle.base.specs.Answers.{given}
 use Rattle.packetizer.specs.Plan.{planNumbers, flatPlan}
 use Rattle.packetizer.specs.Call.{unitPlan}
 use Rattle.payloader.specs.Payload.{payloadsOf, joined}

@@ -1,6 +1,5 @@
-use native.Mathlib.Omega.{arith}
-use mathlib.Core.Path.{_≡_, ap}
-use Prim.Native.Nat.{ℕ, _+_}
+use mathlib.Core.Path.{ap}
+use Prim.Native.Nat.{_+_}
 use Rattle.packetizer.specs.declared.PacketMetadata.{PacketMetadata}
 use borrow.Author.Needs.{needs}
 use Rattle.packing.proofs.payload_size.Statement.{statement}
