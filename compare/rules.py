@@ -428,45 +428,67 @@ def read_train(file):
 
 # ---- the programs
 
-def pack(data):
-    """G2 to G4, G6, G7. What `pack` writes, and what it says: (unit, refusal or 'cut'), at most one."""
+def pack_steps(data):
+    """G2 to G4, G6, G7. What `pack` does, step by step: bytes that it writes, and at most one (unit, refusal or 'cut')."""
     if len(data) < 5 or data[0] != 1:
-        return b"", []
+        return
+    yield b"\x01"
     mtu, number = int.from_bytes(data[1:3], "big"), int.from_bytes(data[3:5], "big")
-    written, at, index = bytearray([1]), 5, 0
+    at, index = 5, 0
     while at < len(data):
         length = int.from_bytes(data[at:at + 4], "big")
         unit = data[at + 4:at + 4 + length]
         if len(data) - at < 4 or length > STORE_BYTES or len(unit) < length:
-            return bytes(written), [(index, "cut")]
+            yield index, "cut"
+            return
         obus, plan, out = [0] * (5 * LIST_RECORDS), [0] * (5 * LIST_RECORDS), bytearray(OUTPUT_BYTES)
         try:
             _, packets, _ = payload(mtu, unit, obus, plan, out)
         except Refused as bad:
-            return bytes(written), [(index, bad.number)]
-        begins = 0
+            yield index, bad.number
+            return
+        written, begins = bytearray(), 0
         for packet in records(plan[:5 * packets], Packet, PLAN_NUMBERS):
             ends = begins + packet.size + 1
             written += train_record(number, bytes(out[begins:ends]))
             begins, number = ends, (number + 1) % 65_536
+        yield bytes(written)
         at, index = at + 4 + length, index + 1
-    return bytes(written), []
+
+
+def unpack_steps(file):
+    """G5 to G7. What `unpack` does, step by step: bytes that it writes for a packet taken, and (record or 'train', refusal)."""
+    found, stop = read_train(file)
+    state, store, out = FRESH, bytearray(STORE_BYTES), bytearray(OUTPUT_BYTES)
+    for index, (number, data) in enumerate(found):
+        try:
+            state, count = receive(state, number, data, store, out)
+            yield bytes(out[:count])
+        except Refused as bad:
+            yield index, bad.number
+    if stop is not None:
+        yield "train" if stop == 21 else len(found), stop
+
+
+def gathered(steps):
+    """G7. What a program writes in all, and what it says."""
+    steps = list(steps)
+    return b"".join(s for s in steps if type(s) is bytes), [s for s in steps if type(s) is tuple]
+
+
+def pack(data):
+    """What `pack` writes, and what it says."""
+    return gathered(pack_steps(data))
 
 
 def unpack(file):
-    """G5 to G7. What `unpack` writes, and what it says: (record, refusal), each packet passed over and the stop."""
-    found, stop = read_train(file)
-    state, store, written, said = FRESH, bytearray(STORE_BYTES), bytearray(), []
-    for index, (number, data) in enumerate(found):
-        out = bytearray(OUTPUT_BYTES)
-        try:
-            state, count = receive(state, number, data, store, out)
-            written += out[:count]
-        except Refused as bad:
-            said.append((index, bad.number))
-    if stop is not None:
-        said.append((len(found), stop))
-    return bytes(written), said
+    """What `unpack` writes, and what it says."""
+    return gathered(unpack_steps(file))
+
+
+def said_text(word, said):
+    """G7. What `pack` (word: unit) or `unpack` (word: record) puts on standard error."""
+    return "".join("%s: %s\n" % (index if index == "train" else "%s %d" % (word, index), what) for index, what in said)
 
 
 def planlist(data):
@@ -862,7 +884,7 @@ def test_programs(t):
     t.same("pack, mtu", pack(bytes.fromhex("01 FF FE 00 00") + units), (b"\x01", [(0, 1)]))
     t.same("unpack", unpack(train), (bytes.fromhex("0A 01 7F 32 00 32 00"), []))
     for what, file, want in [
-        ("empty", "", (b"", [(0, 21)])), ("version", "02", (b"", [(0, 21)])), ("nothing", "01", (b"", [])),
+        ("empty", "", (b"", [("train", 21)])), ("version", "02", (b"", [("train", 21)])), ("nothing", "01", (b"", [])),
         ("length cut", "01 00", (b"", [(0, 22)])), ("record cut", "01 0004 0000 10", (b"", [(0, 22)])),
         ("length 2", "01 0002", (b"", [(0, 23)])), ("length 0 alone", "01 0000", (b"", [(0, 23)])),
         ("shortest record", "01 0003 0000 10", (b"", [(0, 17)])),
@@ -873,6 +895,9 @@ def test_programs(t):
     two = bytes.fromhex("00 00 00 28") + b"\x32\x26" + bytes(38) + bytes.fromhex("00 00 00 03 36 08 00")
     t.same("unpack after pack", unpack(pack(bytes.fromhex("01 00 09 FF FE") + two)[0]),
            (b"\x32\x26" + bytes(38) + bytes.fromhex("36 08 00"), []))
+    t.same("said of units", said_text("unit", [(2, "cut")]), "unit 2: cut\n")
+    t.same("said of records", said_text("record", [(1, 14), (3, 22)]), "record 1: 14\nrecord 3: 22\n")
+    t.same("said of a train", said_text("record", [("train", 21)]), "train: 21\n")
 
 
 def self_test():
@@ -890,8 +915,7 @@ def main(words):
     if words in (["pack"], ["unpack"]):
         written, said = (pack if words == ["pack"] else unpack)(sys.stdin.buffer.read())
         sys.stdout.buffer.write(written)
-        for index, what in said:
-            print("%s %d: %s" % ("unit" if words == ["pack"] else "record", index, what), file=sys.stderr)
+        sys.stderr.write(said_text("unit" if words == ["pack"] else "record", said))
         return 0
     if words == ["planlist"]:
         sys.stdout.write(planlist(sys.stdin.buffer.read()))
