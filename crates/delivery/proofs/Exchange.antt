@@ -13,11 +13,12 @@ use Rattle.base.specs.Answers.{Answer, given, refused}
 use Rattle.base.specs.Lists.{front, All}
 use Rattle.base.proofs.Tests.{by-cond, split-on, cond-same}
 use Rattle.base.proofs.Lists.{flatMap-append, all-left, all-right}
+use Rattle.handing.specs.Handing.{fragmentLimit}
+use Rattle.handing.proofs.Lists.{front-length}
 use Rattle.receiver.specs.Packet.{Packet, packetOf}
 use Rattle.receiver.specs.Joining.{Held, fresh, isAhead, isInStep, ahead, joinable, handed, keptOpen}
-use Rattle.receiver.specs.Call.{fragmentLimit, Taken, stateOf, answered, storeBy, outputBy}
+use Rattle.receiver.specs.Call.{Taken, stateOf, answered, storeBy, outputBy}
 use Rattle.receiver.specs.declared.State.{State}
-use Rattle.receiver.proofs.Lists.{front-length}
 use Rattle.receiver.proofs.Laws.{Holding, holding-fresh, held-again}
 use Rattle.receiver.proofs.Sizes.{output-enough}
 use Rattle.lawful.specs.Train.{NonEmpty}

@@ -26,7 +26,7 @@ use Rattle.payloader.specs.Payload.{payloadsOf, joined}
 use Rattle.payloader.specs.Call.{written, payloadAnswer}
 use Rattle.payloader.proofs.Calls as calls
 use Rattle.payloader.proofs.Calls.{accepted}
-use Rattle.receiver.specs.Handing.{wires}
+use Rattle.handing.specs.Handing.{wires}
 use Rattle.lawful.specs.Train.{Piece, Full, closed, runOf, Portion, obus, join, whole}
 use Rattle.lawful.specs.Payload.{CarryAll}
 use Rattle.lawful.specs.Lawful.{Given, WellFormed}

@@ -14,11 +14,11 @@ use Rattle.base.proofs.Tests.{by-cond, split-on}
 use Rattle.element.specs.Elements.{payloadLimit}
 use Rattle.train.specs.Train.{Packet}
 use Rattle.packing.specs.Pack.{nextNumber, numbered}
+use Rattle.handing.specs.Handing.{fragmentLimit, wires}
 use Rattle.receiver.specs.Packet as apart
 use Rattle.receiver.specs.Packet.{packetOf}
 use Rattle.receiver.specs.Joining.{Held, ahead, next, out}
-use Rattle.receiver.specs.Handing.{wires}
-use Rattle.receiver.specs.Call.{fragmentLimit, Taken, fitted, opened, taken, stateOf, outcome, answered, storeBy, outputBy}
+use Rattle.receiver.specs.Call.{Taken, fitted, opened, taken, stateOf, outcome, answered, storeBy, outputBy}
 use Rattle.receiver.proofs.Laws.{Holding, outcome-holding, holding-next}
 use Rattle.unpacking.specs.Unpack.{fragmentStore, outputBytes, heldAfter, writtenFor, unpackedFrom}
 use Rattle.delivery.specs.Arrivals.{number, inOrder}

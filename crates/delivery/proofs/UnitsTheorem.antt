@@ -16,9 +16,8 @@ use Rattle.aggregation.specs.Header.{noObu}
 use Rattle.packetizer.specs.Call.{sizesOf, unitPlan}
 use Rattle.packetizer.proofs.Calls.{unit-small}
 use Rattle.payloader.specs.Payload.{payloadsOf}
-use Rattle.receiver.specs.Handing.{before, wires}
-use Rattle.receiver.specs.Call.{fragmentLimit}
-use Rattle.receiver.proofs.Laws.{wires-append}
+use Rattle.handing.specs.Handing.{fragmentLimit, before, wires}
+use Rattle.handing.proofs.Wires.{wires-append}
 use Rattle.lawful.specs.Train.{Piece, NonEmpty, bytesIn, Full, closed, packets, runOf, obus, join, whole}
 use Rattle.lawful.specs.Payload.{CarryAll}
 use Rattle.lawful.specs.Lawful.{Lawful, WellFormed}

@@ -8,11 +8,6 @@ const INPUT_STORE: usize = 65535;
 // More than there are cases.
 const MOST_CASES: usize = 1000;
 
-// A number of two bytes, the higher first.
-fn two_bytes(high: u8, low: u8) -> usize {
-    (high as usize) * 256 + (low as usize)
-}
-
 // One case: as many bytes as `planlist` would read for the head and for the unit, and whether there are more.
 fn run(input: &[u8], obus: &mut [u32], plan: &mut [u32]) {
     let head = base::smaller(input.len(), listing::HEAD_BYTES);
@@ -33,7 +28,7 @@ fn next(input: &mut [u8], obus: &mut [u32], plan: &mut [u32]) -> bool {
     if io::read_full(STDIN_FILENO, &mut field) < 2 {
         return false;
     }
-    let came = listing::read_front(input, two_bytes(field[0], field[1]));
+    let came = listing::read_front(input, train::two_bytes(&field, 0) as usize);
     run(&input[..came], obus, plan);
     true
 }

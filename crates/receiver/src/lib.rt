@@ -1,6 +1,4 @@
 // The receiver (V1 to V17): one packet taken, its finished OBUs handed out, the fragment that it leaves open kept in the store.
-mod handing;
-
 use base::Refusal;
 use element::ElementRead;
 use element::Part;
@@ -15,11 +13,14 @@ ghost use lib.ListN.{length, take, drop, getD};
 ghost use lib.Dec.{eqb};
 ghost use Rattle.base.specs.Answers.{given};
 ghost use Rattle.element.specs.Elements.{payloadElements, bytesOf, nowhere};
+ghost use Rattle.handing.specs.Handing.{fragmentLimit};
+ghost use Rattle.handing.specs.Inside.{partsOf, led};
+ghost use Rattle.handing.specs.Paper.{fragmentOf};
 ghost use Rattle.receiver.specs.Joining.{distance, isAhead, isInStep, left};
 ghost use Rattle.receiver.specs.Packet.{packetOf};
-ghost use Rattle.receiver.specs.Call.{fragmentLimit, heldIn, opened, answered, storeBy, outputBy, receiveAnswer, storeAfter, outputAfter};
-ghost use Rattle.receiver.specs.Inside.{partsOf, led, keptBytes, thrown, finishedEnd};
-ghost use Rattle.receiver.specs.Paper.{paper, fragmentOf};
+ghost use Rattle.receiver.specs.Call.{heldIn, opened, answered, storeBy, outputBy, receiveAnswer, storeAfter, outputAfter};
+ghost use Rattle.receiver.specs.Inside.{keptBytes, thrown, finishedEnd};
+ghost use Rattle.receiver.specs.Paper.{paper};
 
 // The most bytes of an open fragment, and the furthest that a packet can be ahead.
 const FRAGMENT_LIMIT: usize = 1048576;

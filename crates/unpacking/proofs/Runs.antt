@@ -13,10 +13,10 @@ use Rattle.base.specs.Lists.{front}
 use Rattle.train.specs.Train.{lengthWidth, Packet, Train, Length, over, stated, bad, lengthOf, Front, ends, holds, stops, bodyOf, packetIn, recordsFrom, recordsOf, headOf, trainBy, standing}
 use Rattle.train.specs.declared.RecordHead.{RecordHead}
 use Rattle.train.proofs.Stepping.{stream-over, stream-bad, stream-cut, stream-next}
+use Rattle.handing.proofs.Lists.{front-length}
 use Rattle.receiver.specs.Joining.{Held, fresh}
 use Rattle.receiver.specs.Call.{Taken, taken, stateOf, outcome, answered, storeBy, outputBy}
 use Rattle.receiver.specs.declared.State.{State}
-use Rattle.receiver.proofs.Lists.{front-length}
 use Rattle.receiver.proofs.Laws.{taken-fits, Holding, holding-fresh, outcome-holding, holding-next}
 use Rattle.unpacking.specs.Unpack.{outputBytes, fragmentStore, turn, heldAfter, writtenFor, unpackedFrom, unpackOf, stepBy, stepAt, storeAt, outAt, stepOf, storeOf, outOf}
 use Rattle.unpacking.specs.Run.{goOn, runBy, runFrom, runHeaded, runOf}

@@ -16,10 +16,6 @@ use Rattle.packing.proofs.Units.{answer-is, Written, written-known, out
 use borrow.Author.Needs.{needs}
 use Rattle.packing.proofs.pack_unit.Statement.{statement}
 use Rattle.packing.proofs.pack_unit.Tie as tie
-use Rattle.packing.proofs.pack_unit.Reads as reads
-use Rattle.packing.proofs.pack_unit.Lts as lts
-use Rattle.packing.proofs.put_records.Reads as put-records-reads
-use Rattle.payloader.proofs.payload.Reads as payload-reads
 
 -- the bytes of the unit
 abbrev unit-of : tie.After-struct-known → List ℕ

@@ -5,9 +5,6 @@ use Rattle.packetizer.specs.declared.PacketMetadata.{PacketMetadata}
 use borrow.Author.Needs.{needs}
 use Rattle.packing.proofs.payload_size.Statement.{statement}
 use Rattle.packing.proofs.payload_size.Tie as tie
-use Rattle.packing.proofs.payload_size.Reads as reads
-use Rattle.packing.proofs.payload_size.Lts as lts
-use Rattle.aggregation.proofs.packet_at.Reads as packet-at-reads
 
 packet-at-requires : tie.Need-packet-at-requires
 packet-at-requires c κs = search needs

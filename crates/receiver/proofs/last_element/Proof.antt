@@ -7,9 +7,9 @@ use Rattle.base.specs.Answers.{given, refused}
 use Rattle.element.specs.Elements.{elementAt, hasField, nowhere, chosen, payloadElements}
 use Rattle.element.specs.Paper.{paperRead, paperWalk, walked}
 use Rattle.element.proofs.Walking.{walked-kept}
-use Rattle.receiver.specs.Inside.{partsOf}
-use Rattle.receiver.proofs.Cursors.{payload-some, elements-some, read-at}
 use borrow.Author.Needs.{needs}
+use Rattle.handing.specs.Inside.{partsOf}
+use Rattle.handing.proofs.Cursors.{payload-some, elements-some, read-at}
 use Rattle.receiver.proofs.last_element.Statement.{statement}
 use Rattle.receiver.proofs.last_element.Tie as tie
 

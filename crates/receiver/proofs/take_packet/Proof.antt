@@ -5,11 +5,11 @@ use mathlib.Core.List.{List}
 use lib.ListN.{length}
 use borrow.Author.Needs.{needs}
 use Rattle.base.specs.Answers.{given}
-use Rattle.receiver.specs.Inside.{putFirst, partsOf, between, RoomAt}
-use Rattle.receiver.specs.Handing.{wires}
-use Rattle.receiver.specs.Paper.{paperHanded}
-use Rattle.receiver.proofs.Cursors.{payload-some, payload-small, elements-some}
-use Rattle.receiver.proofs.Turns.{counted-given, counted-refused}
+use Rattle.handing.specs.Handing.{wires}
+use Rattle.handing.specs.Inside.{putFirst, partsOf, between, RoomAt}
+use Rattle.handing.specs.Paper.{paperHanded}
+use Rattle.handing.proofs.Cursors.{payload-some, payload-small, elements-some}
+use Rattle.handing.proofs.Turns.{counted-given, counted-refused}
 use Rattle.receiver.proofs.Takes.{Taking, kept-most, from-most, to-most, first-at, taking-broken, taking-store, taking-limit, taking-output, taking-all}
 use Rattle.receiver.proofs.take_packet.Statement.{statement}
 use Rattle.receiver.proofs.take_packet.Tie as tie
