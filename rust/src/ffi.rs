@@ -80,11 +80,13 @@ mod raw {
     }
 }
 
+#[inline]
 pub(crate) fn list(unit: &[u8], obus: &mut [u32], answer: &mut Answer) -> u32 {
     // SAFETY: pointers and lengths are of slices, and of an array of four words, that are lent for the call.
     unsafe { raw::av1rtp_list(unit.as_ptr(), unit.len(), obus.as_mut_ptr(), obus.len(), answer) }
 }
 
+#[inline]
 pub(crate) fn plan(mtu: usize, unit: &[u8], obus: &mut [u32], plan: &mut [u32], answer: &mut Answer) -> u32 {
     let (obus_to, plan_to) = (obus.as_mut_ptr(), plan.as_mut_ptr());
     // SAFETY: as in `list`.
@@ -93,6 +95,7 @@ pub(crate) fn plan(mtu: usize, unit: &[u8], obus: &mut [u32], plan: &mut [u32], 
     }
 }
 
+#[inline]
 pub(crate) fn payload(
     mtu: usize,
     unit: &[u8],
@@ -119,16 +122,19 @@ pub(crate) fn payload(
     }
 }
 
+#[inline]
 pub(crate) fn header(obus: &[u32], plan: &[u32], k: usize, answer: &mut Answer) -> u32 {
     // SAFETY: as in `list`.
     unsafe { raw::av1rtp_header(obus.as_ptr(), obus.len(), plan.as_ptr(), plan.len(), k, answer) }
 }
 
+#[inline]
 pub(crate) fn element(payload: &[u8], k: usize, answer: &mut Answer) -> u32 {
     // SAFETY: as in `list`.
     unsafe { raw::av1rtp_element(payload.as_ptr(), payload.len(), k, answer) }
 }
 
+#[inline]
 pub(crate) fn receive(
     state: &mut [usize; 3],
     number: u16,
@@ -154,16 +160,19 @@ pub(crate) fn receive(
     }
 }
 
+#[inline]
 pub(crate) fn train_head(train: &[u8], answer: &mut Answer) -> u32 {
     // SAFETY: as in `list`.
     unsafe { raw::av1rtp_train_head(train.as_ptr(), train.len(), answer) }
 }
 
+#[inline]
 pub(crate) fn train_record(train: &[u8], at: usize, answer: &mut Answer) -> u32 {
     // SAFETY: as in `list`.
     unsafe { raw::av1rtp_train_record(train.as_ptr(), train.len(), at, answer) }
 }
 
+#[inline]
 pub(crate) fn train_record_head(stated: u16, number: u16) -> [u8; 4] {
     let mut head = [0; 4];
     // SAFETY: the head is an array of four bytes.
@@ -171,6 +180,7 @@ pub(crate) fn train_record_head(stated: u16, number: u16) -> [u8; 4] {
     head
 }
 
+#[inline]
 pub(crate) fn size_field(bytes: &[u8], answer: &mut Answer) -> u32 {
     // SAFETY: as in `list`.
     unsafe { raw::av1rtp_size_field(bytes.as_ptr(), bytes.len(), answer) }

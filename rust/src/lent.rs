@@ -82,6 +82,7 @@ pub struct RecordPlace {
 }
 
 /// Makes a call, and takes its number and words for a result.
+#[inline]
 fn answered(call: impl FnOnce(&mut Answer) -> u32) -> Result<[usize; 3], Refusal> {
     let mut answer = [0; 4];
     let number = call(&mut answer);
@@ -96,17 +97,20 @@ fn answered(call: impl FnOnce(&mut Answer) -> u32) -> Result<[usize; 3], Refusal
 }
 
 /// The list call: how many OBUs of a unit are kept. Refusals 2 to 8.
+#[inline]
 pub fn list(unit: &[u8], obus: &mut [u32]) -> Result<usize, Refusal> {
     answered(|answer| ffi::list(unit, obus, answer)).map(|[obus, _, _]| obus)
 }
 
 /// The plan call: list and plan. Refusals 1 to 9.
+#[inline]
 pub fn plan(mtu: usize, unit: &[u8], obus: &mut [u32], plan: &mut [u32]) -> Result<Planned, Refusal> {
     answered(|answer| ffi::plan(mtu, unit, obus, plan, answer))
         .map(|[obus, packets, _]| Planned { obus, packets })
 }
 
 /// The payload call: list, plan and payloads. Refusals 1 to 10.
+#[inline]
 pub fn payload(
     mtu: usize,
     unit: &[u8],
@@ -119,11 +123,13 @@ pub fn payload(
 }
 
 /// The header call: the aggregation header of packet k, from lists of any numbers. Refusal 11.
+#[inline]
 pub fn header(obus: &[u32], plan: &[u32], k: usize) -> Result<u8, Refusal> {
     answered(|answer| ffi::header(obus, plan, k, answer)).map(|[byte, _, _]| byte as u8)
 }
 
 /// The element call: where element k lies. Refusals 13, 15, 16, 17.
+#[inline]
 pub fn element(payload: &[u8], k: usize) -> Result<ElementPlace, Refusal> {
     answered(|answer| ffi::element(payload, k, answer)).map(|[elements, start, length]| ElementPlace {
         elements,
@@ -133,6 +139,7 @@ pub fn element(payload: &[u8], k: usize) -> Result<ElementPlace, Refusal> {
 }
 
 /// The receive call: takes one packet, and gives how many bytes of OBUs are first in `out`. Refusals 12 to 20.
+#[inline]
 pub fn receive(
     state: &mut State,
     number: u16,
@@ -145,11 +152,13 @@ pub fn receive(
 }
 
 /// The version of a train. Refusal 21.
+#[inline]
 pub fn train_head(train: &[u8]) -> Result<u8, Refusal> {
     answered(|answer| ffi::train_head(train, answer)).map(|[version, _, _]| version as u8)
 }
 
 /// The record of a train that begins at `at`, or nothing at the end. Refusals 22 and 23.
+#[inline]
 pub fn train_record(train: &[u8], at: usize) -> Result<Option<RecordPlace>, Refusal> {
     let words = answered(|answer| ffi::train_record(train, at, answer))?;
     let [number, start, length] = words;
@@ -157,11 +166,13 @@ pub fn train_record(train: &[u8], at: usize) -> Result<Option<RecordPlace>, Refu
 }
 
 /// The four bytes before a payload; `stated` is its length plus 2.
+#[inline]
 pub fn train_record_head(stated: u16, number: u16) -> [u8; 4] {
     ffi::train_record_head(stated, number)
 }
 
 /// The value of the size field (leb128) at the front of some bytes, and the bytes that it takes. Refusals 5 and 6.
+#[inline]
 pub fn size_field(bytes: &[u8]) -> Result<(u32, usize), Refusal> {
     answered(|answer| ffi::size_field(bytes, answer)).map(|[value, used, _]| (value as u32, used))
 }

@@ -1,7 +1,7 @@
 -- What crosses says all: 0 is success and nothing else, number and words tell the answers apart, and a state that is handed on is that
 -- state. Assumes nothing.
 use mathlib.Core.Path.{_≡_, refl, ap, ap₂}
-use Prim.Native.Nat.{ℕ, _%_, _≤_, _<_}
+use Prim.Native.Nat.{ℕ, _≤_, _<_}
 use native.Mathlib.Nat.{mod-eq-of-lt}
 use native.Mathlib.Omega.{arith}
 use mathlib.Core.Bool.{Bool, true, false, cond}

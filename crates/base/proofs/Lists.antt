@@ -5,11 +5,13 @@ use native.Mathlib.Nat.{zero-add, add-zero, suc-add, add-suc, zero-sub, sub-zero
 use native.Mathlib.Numerals.{add-one}
 use native.Mathlib.Omega.{arith}
 use mathlib.Core.Bool.{Bool, true, false, cond}
-use mathlib.Core.List.{List, [], _∷_, _++_, append-nil, append-assoc, flatMap}
-use lib.ListN.{length, getD, take, drop, set, length-append, length-drop}
-use lib.Seq.{take-nil, take-all, take-suc, length-take-le, getD-drop, take-at, drop-append-add, drop-drop, sets, sets-eq}
+use mathlib.Core.List.{List, [], _∷_, _++_, append-nil, append-assoc, map, flatMap}
+use lib.ListN.{length, getD, take, drop, set, length-append, length-take, length-drop}
+use lib.Seq.{take-nil, take-all, take-suc, take-add, length-take-le, getD-drop, take-at, drop-append-add, drop-drop, sets, sets-eq}
+use lib.Dec.{ltb}
+use borrow.Author.Tests.{ltb-true, ltb-false, lt-ltb, le-ltb}
 use Rattle.base.specs.Lists.{replaced, front, keep, All}
-use Rattle.base.proofs.Tests.{by-cond}
+use Rattle.base.proofs.Tests.{by-cond, split-on}
 
 module _ {A : Type 0} where
   -- the part that a call is lent from `at` to the end
@@ -21,6 +23,12 @@ module _ {A : Type 0} where
   take-drop m (suc n) [] = rw (take-nil m, suc-add n m)
   take-drop m (suc n) (a ∷ l) = rw (suc-add n m) (take-drop m n l)
 
+  -- fewer than n are there if fewer than n of the first n are
+  pub short-front : (n : ℕ) (l : List A) → ltb (length (take n l)) n ≡ ltb (length l) n
+  short-front n l = split-on (ltb (length l) n)
+      (λ t. rw t (lt-ltb (length (take n l)) n (omega (arith, length-take n l, ltb-true (length l) n t))))
+      (λ t. rw t (le-ltb (length (take n l)) n (omega (arith, length-take n l, ltb-false (length l) n t))))
+
   pub take-append : (n : ℕ) (l m : List A) → take n (l ++ m) ≡ take n l ++ take (n - length l) m
   take-append zero l m = rw (zero-sub (length l))
   take-append (suc n) [] m = rw (sub-zero (suc n))
@@ -30,6 +38,9 @@ module _ {A : Type 0} where
   drop-append zero l m = rw (zero-sub (length l))
   drop-append (suc n) [] m = rw (sub-zero (suc n))
   drop-append (suc n) (a ∷ l) m = rw (suc-sub-suc n (length l)) (drop-append n l m)
+
+  pub length-snoc : (l : List A) (a : A) → length (l ++ (a ∷ [])) ≡ suc (length l)
+  length-snoc l a = omega (arith, length-append l (a ∷ []))
 
   -- stores one after the other
   pub sets-append : (l : List A) (j : ℕ) (a b : List A) → sets l j (a ++ b) ≡ sets (sets l j a) (j + length a) b
@@ -45,6 +56,17 @@ module _ {A : Type 0} where
       let k : i < length (drop start s) = omega (arith, length-drop start s) in
       let n : length (take i (drop start s)) ≡ i = length-take-le i (drop start s) (omega arith) in
       rw (add-one i, take-suc (drop start s) i d k, getD-drop start s i d, sets-append l at (take i (drop start s)) (getD s (start + i) d ∷ []), n)
+
+  -- n bytes stored first and read again
+  pub stored-read : (l a : List A) (n : ℕ) → length a ≡ n → n ≤ length l → take n (drop 0 (sets l 0 a)) ≡ a
+  stored-read l a n e h = rw (sets-eq a l 0 (omega arith)) (take-at a (drop (0 + length a) l) n e)
+
+  -- a turn of the loop that copies blocks
+  pub copy-on : (l s : List A) (at start i n : ℕ) → start + i ≤ length s
+      → sets (sets l at (take i (drop start s))) (at + i) (take n (drop (start + i) s)) ≡ sets l at (take (i + n) (drop start s))
+  copy-on l s at start i n h =
+      let k : length (take i (drop start s)) ≡ i = length-take-le i (drop start s) (omega (arith, length-drop start s)) in
+      rw (take-add i n (drop start s), drop-drop i start s, sets-append l at (take i (drop start s)) (take n (drop (start + i) s)), k)
 
   pub keep-yes : (test : A → Bool) (a : A) (l : List A) → test a ≡ true → keep test (a ∷ l) ≡ a ∷ keep test l
   unfolding keep
@@ -85,11 +107,43 @@ module _ {A : Type 0} where
   all-map f [] h = tt
   all-map f (a ∷ l) h = (f a (h .0), all-map f l (h .1))
 
+  pub all-append : (P : A → Type 0) (l m : List A) → All P l → All P m → All P (l ++ m)
+  all-append P [] m h i = i
+  all-append P (a ∷ l) m h i = (h .0, all-append P l m (h .1) i)
+
+  pub all-snoc : (P : A → Type 0) (l : List A) (a : A) → All P l → P a → All P (l ++ (a ∷ []))
+  all-snoc P l a h i = all-append P l (a ∷ []) h (i, tt)
+
+  pub all-right : (P : A → Type 0) (l m : List A) → All P (l ++ m) → All P m
+  all-right P [] m h = h
+  all-right P (a ∷ l) m h = all-right P l m (h .1)
+
+  pub all-left : (P : A → Type 0) (l m : List A) → All P (l ++ m) → All P l
+  all-left P [] m h = tt
+  all-left P (a ∷ l) m h = (h .0, all-left P l m (h .1))
+
+  pub all-both : (P Q : A → Type 0) (l : List A) → All P l → All Q l → All (λ a. P a × Q a) l
+  all-both P Q [] h i = tt
+  all-both P Q (a ∷ l) h i = ((h .0, i .0), all-both P Q l (h .1) (i .1))
+
   pub all-keep : (P : A → Type 0) (test : A → Bool) (l : List A) → All P l → All P (keep test l)
   unfolding keep
   all-keep P test [] h = tt
   all-keep P test (a ∷ l) h =
       by-cond (All P) (test a) (a ∷ keep test l) (keep test l) (λ t. (h .0, all-keep P test l (h .1))) (λ t. all-keep P test l (h .1))
+
+module _ {A B : Type 0} (f : A → B) where
+  pub map-append : (l m : List A) → map f (l ++ m) ≡ map f l ++ map f m
+  map-append [] m = refl
+  map-append (a ∷ l) m = ap (λ (r : List B). f a ∷ r) (map-append l m)
+
+  pub all-of-map : (P : B → Type 0) (l : List A) → All (λ a. P (f a)) l → All P (map f l)
+  all-of-map P [] h = tt
+  all-of-map P (a ∷ l) h = (h .0, all-of-map P l (h .1))
+
+  pub map-all : (P : B → Type 0) (l : List A) → All P (map f l) → All (λ a. P (f a)) l
+  map-all P [] h = tt
+  map-all P (a ∷ l) h = (h .0, map-all P l (h .1))
 
 module _ {A B : Type 0} (f : A → List B) where
   pub flatMap-append : (l m : List A) → flatMap f (l ++ m) ≡ flatMap f l ++ flatMap f m

@@ -1,7 +1,7 @@
-// What every other crate stands on: the refusals R1 to R23 by name, a record of five numbers stored in a lent flat list, and
-// bytes copied.
+// What every other crate stands on: the refusals R1 to R23 by name, a record of five numbers stored in a lent flat list, the
+// smaller of two numbers, and bytes copied.
 ghost use mathlib.Core.Path.{_≡_};
-ghost use Prim.Native.Nat.{_+_, _≤_};
+ghost use Prim.Native.Nat.{_+_, _≤_, min};
 ghost use mathlib.Core.List.{[], _∷_};
 ghost use lib.ListN.{length, take, drop};
 ghost use lib.Seq.{sets};
@@ -76,15 +76,48 @@ pub fn put_five(list: &mut [u32], at: usize, a: u32, b: u32, c: u32, d: u32, e: 
     list[at + 4] = e;
 }
 
-// Copies the n bytes of `from` at `start` to the cursor `at` of `to`, and returns the cursor after them.
+// The smaller of two numbers.
+pub fn smaller(a: usize, b: usize) -> usize
+    ensures { λ r. ⌜ r ≡ min a b ⌝ }
+{
+    if a < b { a } else { b }
+}
+
+// The bytes of a block: as many as the largest payload has, and a few more.
+const BLOCK: usize = 65536;
+
+// One byte after the other.
+fn copy_each(from: &[u8], start: usize, n: usize, to: &mut [u8], at: usize)
+    requires { ⌜ (start + n ≤ length (now from)) × (at + n ≤ length (now to)) ⌝ }
+    ensures { λ _. ⌜ now (to .exit) ≡ sets (now (to .entry)) at (take n (drop start (now (from .entry)))) ⌝ }
+{
+    let mut i: usize = 0;
+    while i < n {
+        to[at + i] = from[start + i];
+        i += 1;
+    }
+}
+
+// A block read whole and then written: the compiler sees that the two steps do not meet, and makes one move of memory of them.
+fn copy_block(from: &[u8], start: usize, n: usize, to: &mut [u8], at: usize)
+    requires { ⌜ (n ≤ 65536) × (start + n ≤ length (now from)) × (at + n ≤ length (now to)) ⌝ }
+    ensures { λ _. ⌜ now (to .exit) ≡ sets (now (to .entry)) at (take n (drop start (now (from .entry)))) ⌝ }
+{
+    let mut held = [0u8; BLOCK];
+    copy_each(from, start, n, &mut held, 0);
+    copy_each(&held, 0, n, to, at);
+}
+
+// Copies the n bytes of `from` at `start` to the cursor `at` of `to`, block after block, and returns the cursor after them.
 pub fn copy_bytes(from: &[u8], start: usize, n: usize, to: &mut [u8], at: usize) -> usize
     requires { ⌜ (start + n ≤ length (now from)) × (at + n ≤ length (now to)) ⌝ }
     ensures { λ r. ⌜ (r ≡ at + n) × (now (to .exit) ≡ sets (now (to .entry)) at (take n (drop start (now (from .entry))))) ⌝ }
 {
     let mut i: usize = 0;
     while i < n {
-        to[at + i] = from[start + i];
-        i += 1;
+        let size = smaller(n - i, BLOCK);
+        copy_block(from, start + i, size, to, at + i);
+        i += size;
     }
     at + n
 }

@@ -11,24 +11,24 @@ use lib.Dec.{ltb, eqb}
 use borrow.Author.Tests.{ltb-true, ltb-false, le-ltb}
 use Rattle.base.specs.Answers.{Answer, given, refused}
 use Rattle.base.specs.Lists.{front, All}
-use Rattle.base.proofs.Tests.{by-cond, split-on}
-use Rattle.base.proofs.Lists.{flatMap-append}
+use Rattle.base.proofs.Tests.{by-cond, split-on, cond-same}
+use Rattle.base.proofs.Lists.{flatMap-append, all-left, all-right}
+use Rattle.handing.specs.Handing.{fragmentLimit}
+use Rattle.handing.proofs.Lists.{front-length}
 use Rattle.receiver.specs.Packet.{Packet, packetOf}
 use Rattle.receiver.specs.Joining.{Held, fresh, isAhead, isInStep, ahead, joinable, handed, keptOpen}
-use Rattle.receiver.specs.Call.{fragmentLimit, Taken, stateOf, answered, storeBy, outputBy}
+use Rattle.receiver.specs.Call.{Taken, stateOf, answered, storeBy, outputBy}
 use Rattle.receiver.specs.declared.State.{State}
-use Rattle.receiver.proofs.Lists.{front-length}
 use Rattle.receiver.proofs.Laws.{Holding, holding-fresh, held-again}
 use Rattle.receiver.proofs.Sizes.{output-enough}
 use Rattle.lawful.specs.Train.{NonEmpty}
 use Rattle.lawful.specs.Payload.{CarryAll}
 use Rattle.lawful.specs.Lawful.{WellFormed}
-use Rattle.lawful.proofs.Lists.{all-left, all-right}
 use Rattle.delivery.specs.Arrivals.{number, NearTo, Near}
 use Rattle.delivery.specs.Calls.{Arrival, packetsIn, Call, stateAfter, bytesBy, Verdict, takes, refuses, takenOr14, calls, handedOut, verdicts}
 use Rattle.delivery.proofs.Open.{noted, Small}
 use Rattle.delivery.proofs.Numbers.{after, not-ahead, is-ahead, is-in-step}
-use Rattle.delivery.proofs.Follow.{noPacket, joins, follow, cond-none}
+use Rattle.delivery.proofs.Follow.{noPacket, joins, follow}
 use Rattle.delivery.proofs.Timely.{advances}
 use Rattle.delivery.proofs.OneCall.{carried-packet, wireBytes, wires-given, call-late, call-taken}
 
@@ -141,7 +141,7 @@ module _ (payloads : List (List ℕ)) (first : ℕ) (run : List Packet) (size mt
       let r : List ℕ = packetsIn rest in
       let q : Packet = getD run (a .packet) noPacket in
       let t : ltb (a .packet) 0 ≡ false = le-ltb (a .packet) 0 (omega arith) in
-      let e : joins (a .packet) 0 [] ≡ [] = cond-none (eqb (a .packet) 0) in
+      let e : joins (a .packet) 0 [] ≡ [] = cond-same (eqb (a .packet) 0) [] in
       let f′ = rw (t, e) at f in
       let k′ = rw (t, e) at k in
       rw (t, e)

@@ -8,6 +8,7 @@ use lib.ListN.{length, getD, drop}
 use lib.Seq.{drop-cons}
 use lib.Dec.{ltb, eqb}
 use borrow.Author.Tests.{ltb-true, ltb-false, lt-ltb, le-ltb, eq-eqb, ne-eqb}
+use Rattle.base.proofs.Tests.{cond-same}
 use Rattle.base.specs.Lists.{All}
 use Rattle.receiver.specs.Packet.{Packet}
 use Rattle.receiver.specs.Joining.{keptOpen}
@@ -35,10 +36,6 @@ near-to-in size m (a ∷ r) h = (h .0, near-to-in size (max m a) r (h .3))
 pub near-in : (size : ℕ) (r : List ℕ) → Near size r → All (λ a. a < size) r
 near-in size [] h = tt
 near-in size (a ∷ r) h = (h .0, near-to-in size a r (h .1))
-
-pub cond-none : {A : Type 0} (b : Bool) → cond {A = List A} b [] [] ≡ []
-cond-none true = refl
-cond-none false = refl
 
 -- a place in a run past its end
 abbrev pub noPacket : Packet
@@ -77,7 +74,7 @@ module _ {E : Type 0} (emit : List ℕ → Packet → List E) (run : List Packet
   skip f a l zero n o e h = let q : n ≡ a = omega arith in rw (eq-eqb a n (sym q)) (ap (λ m. walk emit f m o (drop m run)) q)
   skip f a l (suc d) n o e h =
       rw (drop-cons run n noPacket (omega arith), h n (omega arith) (omega arith), ne-eqb a n (λ q. omega arith))
-      (skip f a l d (suc n) [] (omega arith) (λ k i j. h k (omega arith) j) ∙ rw (cond-none {A = ℕ} (eqb a (suc n))))
+      (skip f a l d (suc n) [] (omega arith) (λ k i j. h k (omega arith) j) ∙ rw (cond-same {A = List ℕ} (eqb a (suc n)) []))
 
   -- packet a is taken
   step-at : (f : ℕ → Bool) (a : ℕ) (o : List ℕ) → a < length run → f a ≡ true

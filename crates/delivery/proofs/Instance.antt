@@ -9,8 +9,8 @@ use Rattle.leb128.specs.Field.{fieldIn, encodeIn}
 use Rattle.obu.specs.Front.{frontOf, headed}
 use Rattle.obu.specs.Wire.{wholeOf, wire}
 use Rattle.element.specs.Elements.{elementAt, untilEnd, exactly, counting, elementsOf, payloadElements}
+use Rattle.handing.specs.Handing.{wires}
 use Rattle.receiver.specs.Joining.{fresh, isAhead, isInStep, joined, finished, left, handed, keptOpen, next, out}
-use Rattle.receiver.specs.Handing.{wires}
 use Rattle.receiver.specs.Call.{taken, outcome, stateOf}
 use Rattle.lawful.specs.Train.{obus, join}
 use Rattle.lawful.proofs.Rows.{example, payloads, lawful}

@@ -4,14 +4,14 @@ use Prim.Native.Nat.{ℕ, zero, suc, _+_, _≤_, _<_}
 use native.Mathlib.Nat.{max-eq-right}
 use native.Mathlib.Omega.{arith}
 use mathlib.Core.List.{List, [], _∷_, _++_, map}
-use mathlib.Core.Bool.{Bool, true, false, cond}
+use mathlib.Core.Bool.{Bool, true, false}
 use lib.ListN.{length}
 use lib.Dec.{ltb, eqb}
 use borrow.Author.Tests.{ltb-true, ltb-false, le-ltb, eq-eqb}
 use Rattle.base.specs.Lists.{keep, All}
+use Rattle.base.proofs.Lists.{all-snoc}
 use Rattle.base.proofs.Tests.{by-cond}
 use Rattle.lawful.specs.Train.{Piece, cut, inner, final, packets, runOf, Portion, portion, obus, obusIn, whole}
-use Rattle.lawful.proofs.Lists.{all-snoc}
 use Rattle.lawful.proofs.Reading.{carried-count}
 use Rattle.delivery.specs.Arrivals.{timely, NearTo, Near, inOrder}
 use Rattle.delivery.specs.Calls.{takes, takenOr14}

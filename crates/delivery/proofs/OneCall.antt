@@ -10,11 +10,12 @@ use Rattle.base.proofs.Lists.{all-map}
 use Rattle.obu.specs.Front.{Front}
 use Rattle.obu.specs.Wire.{wholeOf, handedOut, wire}
 use Rattle.element.proofs.Laws.{payload-fits}
+use Rattle.handing.specs.Handing.{fragmentLimit, wires}
+use Rattle.handing.proofs.Wires.{wires-each}
 use Rattle.receiver.specs.Packet.{Packet, packetBy, packetOf}
 use Rattle.receiver.specs.Joining.{Held, ahead, joinable, handed, keptOpen, next, out}
-use Rattle.receiver.specs.Handing.{wires}
-use Rattle.receiver.specs.Call.{fragmentLimit, stateOf, outcome}
-use Rattle.receiver.proofs.Laws.{wires-each, taken-all, taken-behind, Holding, outcome-holding}
+use Rattle.receiver.specs.Call.{stateOf, outcome}
+use Rattle.receiver.proofs.Laws.{taken-all, taken-behind, Holding, outcome-holding}
 use Rattle.lawful.specs.Train.{NonEmpty}
 use Rattle.lawful.specs.Payload.{Carry}
 use Rattle.lawful.specs.Lawful.{Given, WellFormed}

@@ -9,7 +9,7 @@ use borrow.Author.Tests.{not-true}
 use Rattle.base.specs.Answers.{Answer, given, refused}
 use Rattle.base.specs.Lists.{keep, All}
 use Rattle.base.proofs.Tests.{by-cond}
-use Rattle.base.proofs.Lists.{all-map, all-keep}
+use Rattle.base.proofs.Lists.{all-map, all-keep, all-of-map, map-all}
 use Rattle.obu.specs.Header.{typeOf, drops}
 use Rattle.obu.specs.Unit.{unitLimit, Placed, scanOf, isKept, keptOf, obusOf}
 use Rattle.obu.specs.Front.{Front}
@@ -26,11 +26,10 @@ use Rattle.payloader.specs.Payload.{payloadsOf, joined}
 use Rattle.payloader.specs.Call.{written, payloadAnswer}
 use Rattle.payloader.proofs.Calls as calls
 use Rattle.payloader.proofs.Calls.{accepted}
-use Rattle.receiver.specs.Handing.{wires}
+use Rattle.handing.specs.Handing.{wires}
 use Rattle.lawful.specs.Train.{Piece, Full, closed, runOf, Portion, obus, join, whole}
 use Rattle.lawful.specs.Payload.{CarryAll}
 use Rattle.lawful.specs.Lawful.{Given, WellFormed}
-use Rattle.lawful.proofs.Lists.{all-of-map, map-all}
 use Rattle.lawful.proofs.Trains.{Chained, cutting, run-cutting, cutting-full, cutting-closed}
 use Rattle.delivery.specs.Arrivals.{inOrder}
 use Rattle.delivery.specs.Units.{Sending, Accepted, every, packetsOf, wholeObus}

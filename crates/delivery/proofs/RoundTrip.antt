@@ -3,34 +3,34 @@
 --     all-go        what one packet finishes has room in `unpack`'s output
 --     round-trip    the theorem
 use mathlib.Core.Path.{_≡_, refl, sym, ap, ap₂, subst, _∙_}
-use Prim.Native.Nat.{ℕ, zero, suc, _+_, _-_, _*_, _/_, _%_, _≤_, _<_}
+use Prim.Native.Nat.{ℕ, zero, suc, _+_, _-_, _*_, _/_, _≤_, _<_}
 use native.Mathlib.Omega.{arith}
 use mathlib.Core.List.{List, [], _∷_, _++_, append-assoc, append-nil, map, flatMap}
-use mathlib.Core.Bool.{Bool, true, false, cond, not, _||_}
+use mathlib.Core.Bool.{not, _||_}
 use lib.ListN.{length, getD, take, drop, length-take, length-append, replicate, length-replicate}
 use lib.Seq.{getD-drop}
 use lib.Dec.{ltb, eqb}
 use Rattle.base.specs.Answers.{Answer, given, refused}
 use Rattle.base.specs.Lists.{All}
-use Rattle.base.proofs.Lists.{all-map, flatMap-append, flatMap-one}
+use Rattle.base.proofs.Lists.{all-map, flatMap-append, flatMap-one, all-append, all-left, all-right, all-both, all-of-map}
 use Rattle.base.proofs.Tests.{by-cond}
-use Rattle.obu.specs.Unit.{unitLimit, obuNumbers, Placed, keptOf, obusOf}
+use Rattle.obu.specs.Unit.{obuNumbers, Placed, keptOf, obusOf}
 use Rattle.obu.specs.Wire.{wireOf}
 use Rattle.obu.specs.declared.Obu.{Obu}
 use Rattle.obu.proofs.Theorems.{Inside, kept-inside, wire-small}
 use Rattle.packetizer.specs.Plan.{leastMtu, planNumbers}
 use Rattle.packetizer.specs.Call.{mtuLimit}
 use Rattle.payloader.specs.Payload.{payloadsOf}
-use Rattle.payloader.specs.Call.{payloadAnswer}
 use Rattle.payloader.specs.declared.Payloads.{Payloads}
-use Rattle.packing.specs.Pack.{packVersion, headWidth, Head, found, headIn, unitStore, listRecords, outputBytes, unitWidth, nextNumber, numbered, numberAfter, answerIn, Length, over, stated, cut, lengthIn, Units, stopped, withUnit, withLength, unitsFrom, unitsBy, unitsIn, packetsOf, trainBy, packOf}
+use Rattle.packing.specs.Pack.{packVersion, headWidth, Head, found, headIn, unitStore, listRecords, outputBytes, unitWidth, nextNumber, numbered, numberAfter, answerIn, Length, over, stated, cut, lengthIn, Units, withUnit, withLength, unitsFrom, unitsBy, packetsOf, trainBy}
 use Rattle.packing.specs.declared.PackHead.{PackHead}
 use Rattle.packing.proofs.Reading.{stated-within}
 use Rattle.packing.proofs.Units.{answer-is}
+use Rattle.packing.proofs.Runs.{numbered-append}
 use Rattle.train.specs.Bytes.{valueAfter, valueOf}
 use Rattle.train.specs.Train.{trainVersion, lengthWidth, Packet, Train, ended, trainOf as trainFile, trainIn, standing}
 use Rattle.train.proofs.Written.{AllFit, written-read}
-use Rattle.receiver.specs.Joining.{Held, fresh}
+use Rattle.receiver.specs.Joining.{fresh}
 use Rattle.receiver.specs.Call.{Taken, stateOf}
 use Rattle.receiver.proofs.Laws.{holding-fresh}
 use Rattle.unpacking.specs.Unpack.{fragmentStore, writtenFor, unpackedFrom, unpackOf}
@@ -38,10 +38,9 @@ use Rattle.lawful.specs.Train as lawful
 use Rattle.lawful.specs.Train.{runOf}
 use Rattle.lawful.specs.Payload.{CarryAll}
 use Rattle.lawful.specs.Lawful.{Given}
-use Rattle.lawful.proofs.Lists.{all-append, all-left, all-right, all-both, all-of-map}
-use Rattle.delivery.specs.Arrivals.{number, inOrder}
+use Rattle.delivery.specs.Arrivals.{number}
 use Rattle.delivery.specs.Calls.{takes, calls, handedOut, verdicts}
-use Rattle.delivery.specs.Units.{Sending, Accepted, payloadsSent, UnitSpace}
+use Rattle.delivery.specs.Units.{Sending, Accepted, payloadsSent}
 use Rattle.delivery.specs.RoundTrip.{wireBytesOf, RoundTrip}
 use Rattle.delivery.proofs.Turns.{turns, heldThen, turns-append, unpacked-turns, Goes, turns-room, arriving, arriving-packets, arriving-outputs, callBy, calls-turns, turns-out, turns-go}
 use Rattle.delivery.proofs.OneUnit.{within-limits, trainOf, train-carried, train-short}
@@ -75,11 +74,6 @@ module _ (mtu : ℕ) where
   units-good i (b ∷ l) zero = with-length i (b ∷ l) (lengthIn (b ∷ l)) refl (λ span. unitsFrom mtu (i + 1) l (span - 1)) (λ n. units-good (i + 1) l (n - 1))
 
 -- ---- lists
-
-numbered-append : (n : ℕ) (ps qs : List (List ℕ)) → numbered n (ps ++ qs) ≡ numbered n ps ++ numbered (numberAfter n ps) qs
-unfolding numbered numberAfter
-numbered-append n [] qs = refl
-numbered-append n (p ∷ ps) qs = ap (λ (l : List Packet). record { number = n; payload = p } ∷ l) (numbered-append (nextNumber n) ps qs)
 
 verdicts-right : (l m : List (Answer Taken)) → All (λ v. v ≡ takes) (verdicts (map callBy (l ++ m))) → All (λ v. v ≡ takes) (verdicts (map callBy m))
 verdicts-right [] m a = a

@@ -2,17 +2,15 @@
 use mathlib.Core.Path.{_≡_, sym, ap, subst, _∙_}
 use Prim.Native.Nat.{ℕ, _<_}
 use mathlib.Core.List.{List, [], map, flatMap}
-use mathlib.Core.Bool.{Bool, cond}
 use lib.ListN.{length}
 use Rattle.base.specs.Answers.{given}
 use Rattle.base.specs.Lists.{keep, All}
-use Rattle.base.proofs.Lists.{all-keep}
+use Rattle.base.proofs.Lists.{all-keep, all-of-map}
 use Rattle.receiver.specs.Packet.{Packet}
 use Rattle.receiver.specs.Joining.{fresh, handed}
 use Rattle.receiver.specs.Call.{stateOf}
 use Rattle.lawful.specs.Train.{Piece, Full, runOf, obusIn, join, whole}
 use Rattle.lawful.specs.Lawful.{WellFormed}
-use Rattle.lawful.proofs.Lists.{all-of-map}
 use Rattle.lawful.proofs.Reading.{carried-count}
 use Rattle.lawful.proofs.Trains.{run-full}
 use Rattle.delivery.specs.Arrivals.{timely}

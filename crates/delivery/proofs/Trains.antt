@@ -1,15 +1,14 @@
 -- Two trains, each with a fresh receiver: what each hands out is of its own (T4, D3). Assumes nothing.
-use mathlib.Core.Path.{_≡_, refl, sym, ap, ap₂, subst, _∙_}
-use Prim.Native.Nat.{ℕ, suc, _+_}
+use mathlib.Core.Path.{_≡_, refl, sym, ap₂, subst, _∙_}
+use Prim.Native.Nat.{ℕ, _+_}
 use mathlib.Core.List.{List, [], _∷_, _++_, map, flatMap}
-use mathlib.Core.Bool.{Bool, true, false, cond}
+use mathlib.Core.Bool.{Bool}
 use lib.ListN.{length, getD}
 use Rattle.base.specs.Lists.{keep}
 use Rattle.base.proofs.Tests.{by-cond}
 use Rattle.base.proofs.Lists.{flatMap-append}
 use Rattle.obu.specs.Unit.{obusOf}
 use Rattle.obu.specs.Wire.{wireOf}
-use Rattle.obu.specs.declared.Obu.{Obu}
 use Rattle.packetizer.specs.Call.{unitPlan}
 use Rattle.aggregation.specs.Header.{noObu}
 use Rattle.delivery.specs.Arrivals.{timely, inOrder}

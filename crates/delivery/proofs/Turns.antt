@@ -1,28 +1,27 @@
 -- One packet after the other, by what is held: the calls of a run with no loss, and how little the output's length matters. Assumes nothing.
 use mathlib.Core.Path.{_≡_, refl, sym, ap, ap₂, _∙_}
-use Prim.Native.Nat.{ℕ, zero, suc, _+_, _%_, _≤_, _<_}
+use Prim.Native.Nat.{ℕ, zero, suc, _+_, _≤_}
 use native.Mathlib.Omega.{arith}
 use mathlib.Core.List.{List, [], _∷_, _++_, map, flatMap}
 use mathlib.Core.Bool.{Bool, true, false, cond, _||_}
-use lib.ListN.{length, getD, take, drop, length-append}
+use lib.ListN.{length, getD, drop, length-append}
 use lib.Seq.{getD-drop, drop-drop, take-append-seam}
 use lib.Dec.{ltb, eqb}
-use borrow.Author.Tests.{ltb-false, le-ltb}
+use borrow.Author.Tests.{le-ltb}
 use Rattle.base.specs.Answers.{Answer, given, refused}
 use Rattle.base.specs.Lists.{front, All}
-use Rattle.base.proofs.Tests.{by-cond, split-on}
 use Rattle.element.specs.Elements.{payloadLimit}
 use Rattle.train.specs.Train.{Packet}
 use Rattle.packing.specs.Pack.{nextNumber, numbered}
+use Rattle.handing.specs.Handing.{fragmentLimit, wires}
 use Rattle.receiver.specs.Packet as apart
 use Rattle.receiver.specs.Packet.{packetOf}
 use Rattle.receiver.specs.Joining.{Held, ahead, next, out}
-use Rattle.receiver.specs.Handing.{wires}
-use Rattle.receiver.specs.Call.{fragmentLimit, Taken, fitted, opened, taken, stateOf, outcome, answered, storeBy, outputBy}
+use Rattle.receiver.specs.Call.{Taken, fitted, opened, taken, stateOf, outcome, answered, storeBy, outputBy}
 use Rattle.receiver.proofs.Laws.{Holding, outcome-holding, holding-next}
 use Rattle.unpacking.specs.Unpack.{fragmentStore, outputBytes, heldAfter, writtenFor, unpackedFrom}
 use Rattle.delivery.specs.Arrivals.{number, inOrder}
-use Rattle.delivery.specs.Calls.{Arrival, packetsIn, Call, stateAfter, bytesBy, takes, verdictOf, calls, handedOut, verdicts}
+use Rattle.delivery.specs.Calls.{Arrival, packetsIn, Call, stateAfter, bytesBy, takes, calls, handedOut, verdicts}
 
 -- ---- what is made of each packet, with so much space in the store and so much room in the output
 

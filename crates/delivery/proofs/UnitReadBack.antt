@@ -1,6 +1,6 @@
 -- What the payload call writes, read by the definition of elements, gives back the plan's Z, Y and elements. Assumes nothing.
-use mathlib.Core.Path.{_≡_, refl, ap, subst, _∙_}
-use Prim.Native.Nat.{ℕ, _-_}
+use mathlib.Core.Path.{ap, subst, _∙_}
+use Prim.Native.Nat.{ℕ}
 use mathlib.Core.List.{List, [], _∷_, map}
 use mathlib.Core.Bool.{Bool, cond}
 use lib.ListN.{length}
@@ -18,10 +18,9 @@ use Rattle.element.proofs.Carried as carried
 use Rattle.lawful.specs.Train.{NonEmpty, Packet}
 use Rattle.lawful.specs.Payload.{Carry, CarryAll}
 use Rattle.lawful.proofs.Reading.{carried-read}
-use Rattle.delivery.specs.Units.{Sending, Accepted}
 use Rattle.delivery.specs.ReadBack.{ReadBack, AllReadBack, UnitReadBack}
 use Rattle.delivery.proofs.UnitPackets.{elementsAt, packetFor, unit-full}
-use Rattle.delivery.proofs.OneUnit.{trainOf, train-run, train-carried, runs}
+use Rattle.delivery.proofs.OneUnit.{train-run, train-carried, runs}
 
 module _ (unit : List ℕ) where
   one-back : (payload : List ℕ) (p : PacketMetadata) → Carry payload (packetFor unit p) → All NonEmpty (elementsAt unit p) → ReadBack unit p payload

@@ -17,8 +17,8 @@ use Rattle.aggregation.specs.Header.{nOf, byteOf}
 use Rattle.payloader.specs.Payload.{fielded, payload, payloadsFrom, payloadsOf}
 use Rattle.payloader.specs.Call.{payloadAnswer}
 use Rattle.element.specs.Elements.{elementAt, untilEnd, exactly, counting, elementsOf, payloadElements}
+use Rattle.handing.specs.Handing.{wires}
 use Rattle.receiver.specs.Joining.{fresh, isAhead, isInStep, joined, finished, left, handed, keptOpen, next, out}
-use Rattle.receiver.specs.Handing.{wires}
 use Rattle.receiver.specs.Call.{taken, outcome, stateOf}
 use Rattle.delivery.specs.Arrivals.{Near}
 use Rattle.delivery.specs.Calls.{Arrival, packetsIn, Call, takes, refuses, calls, handedOut, verdicts}

@@ -8,7 +8,7 @@ use mathlib.Core.Bool.{Bool, true, false}
 use lib.ListN.{length, getD, length-map}
 use Rattle.base.specs.Answers.{given}
 use Rattle.base.specs.Lists.{keep, All}
-use Rattle.base.proofs.Lists.{all-map, keep-append}
+use Rattle.base.proofs.Lists.{all-map, keep-append, all-append, map-append}
 use Rattle.obu.specs.Unit.{obusOf}
 use Rattle.obu.specs.Wire.{wireOf}
 use Rattle.obu.specs.declared.Obu.{Obu}
@@ -16,13 +16,11 @@ use Rattle.aggregation.specs.Header.{noObu}
 use Rattle.packetizer.specs.Call.{sizesOf, unitPlan}
 use Rattle.packetizer.proofs.Calls.{unit-small}
 use Rattle.payloader.specs.Payload.{payloadsOf}
-use Rattle.receiver.specs.Handing.{before, wires}
-use Rattle.receiver.specs.Call.{fragmentLimit}
-use Rattle.receiver.proofs.Laws.{wires-append}
+use Rattle.handing.specs.Handing.{fragmentLimit, before, wires}
+use Rattle.handing.proofs.Wires.{wires-append}
 use Rattle.lawful.specs.Train.{Piece, NonEmpty, bytesIn, Full, closed, packets, runOf, obus, join, whole}
 use Rattle.lawful.specs.Payload.{CarryAll}
 use Rattle.lawful.specs.Lawful.{Lawful, WellFormed}
-use Rattle.lawful.proofs.Lists.{all-append, map-append}
 use Rattle.lawful.proofs.Reading.{carry-append}
 use Rattle.lawful.proofs.Trains.{closed-append, run-append, obus-append}
 use Rattle.delivery.specs.Arrivals.{timely, firstTimely, inOrder}

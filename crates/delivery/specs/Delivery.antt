@@ -2,13 +2,12 @@
 use Prim.Native.Nat.{ℕ, _+_, _*_, _≤_}
 use mathlib.Core.Path.{_≡_}
 use mathlib.Core.List.{List, [], map}
-use mathlib.Core.Bool.{Bool, cond}
 use lib.ListN.{length}
 use Rattle.base.specs.Answers.{given}
 use Rattle.base.specs.Lists.{keep, All}
+use Rattle.handing.specs.Handing.{fragmentLimit, wires}
 use Rattle.receiver.specs.Joining.{fresh}
-use Rattle.receiver.specs.Handing.{wires}
-use Rattle.receiver.specs.Call.{fragmentLimit, stateOf}
+use Rattle.receiver.specs.Call.{stateOf}
 use Rattle.lawful.specs.Train.{Piece, obusIn, join, whole}
 use Rattle.lawful.specs.Lawful.{Lawful}
 use Rattle.delivery.specs.Arrivals.{timely, firstTimely, Near, inOrder}

@@ -146,11 +146,23 @@ pub fn read_element(payload: &[u8], at: usize, field: bool) -> ElementRead
     }
 }
 
-// This part where told to, else the one kept so far.
+// This part where told to, else the one kept so far: number by number, so that they stay in registers.
 fn kept_of(here: bool, part: Part, kept: Part) -> Part
     ensures { λ r. ⌜ r ≡ cond here part kept ⌝ }
 {
-    if here { part } else { kept }
+    if here {
+        Part {
+            start: part.start,
+            length: part.length,
+            next: part.next,
+        }
+    } else {
+        Part {
+            start: kept.start,
+            length: kept.length,
+            next: kept.next,
+        }
+    }
 }
 
 // The elements after the header, by W: how many, and element k.

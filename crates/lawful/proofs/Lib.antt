@@ -1,5 +1,4 @@
 -- What holds of lawful trains, for the proofs above.
-pub mod Lists
 pub mod Reading
 pub mod Trains
 pub mod Rows

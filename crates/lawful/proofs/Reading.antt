@@ -13,13 +13,13 @@ use mathlib.Core.Bool.{true, false, _&&_}
 use lib.ListN.{length, length-append, length-map}
 use lib.Dec.{eqb}
 use Rattle.base.specs.Lists.{All}
+use Rattle.base.proofs.Lists.{length-snoc}
 use Rattle.leb128.specs.Field.{form, largestValue}
 use Rattle.leb128.proofs.Reading.{cap}
 use Rattle.element.specs.Header.{zBit, wOf, nBit}
 use Rattle.element.specs.Elements.{payloadLimit}
 use Rattle.element.proofs.Carried as carried
 use Rattle.element.proofs.Carried.{Framed, framed, States, AllState, padded-states, carried-end, carried-w}
-use Rattle.lawful.proofs.Lists.{length-snoc}
 use Rattle.lawful.specs.Train.{NonEmpty, Packet}
 use Rattle.lawful.specs.Payload.{Holds, Laid, bare, last, more, Counted, each, exact, Carries, Carry, CarryAll}
 

@@ -11,8 +11,8 @@ use mathlib.Core.List.{List, [], _∷_, _++_, map, append-assoc, append-nil}
 use mathlib.Core.Bool.{Bool, true, false, not, _&&_, and-true, and-assoc, false≢true}
 use lib.ListN.{length}
 use Rattle.base.specs.Lists.{All}
+use Rattle.base.proofs.Lists.{length-snoc, all-append, all-snoc, map-append}
 use Rattle.lawful.specs.Train.{Piece, cut, inner, final, bytesIn, NonEmpty, Full, closed, Packet, packets, runOf, Portion, portion, obus, obusIn, join, whole}
-use Rattle.lawful.proofs.Lists.{length-snoc, all-append, all-snoc, map-append}
 
 -- ---- one more portion of an OBU
 

@@ -10,7 +10,7 @@ use lib.Dec.{ltb, leb}
 use borrow.Author.Tests.{le-ltb, lt-leb, ltb-true, ltb-false, leb-true, leb-false}
 use Rattle.base.specs.Lists.{All}
 use Rattle.base.proofs.Tests.{split-on}
-use Rattle.leb128.specs.Field.{Field, sized, unreadable, more, fieldIn, capped, sizeField, longestField, largestValue}
+use Rattle.leb128.specs.Field.{sized, unreadable, fieldIn, capped, sizeField, longestField, largestValue}
 
 -- every byte has the top bit set
 abbrev pub Unending : List ℕ → Type 0

@@ -7,15 +7,14 @@
 use mathlib.Core.Path.{_≡_, refl, sym, ap, ap₂, _∙_}
 use Prim.Native.Nat.{ℕ, zero, suc, _+_, _-_, _*_, _/_, _%_, _≤_, _<_}
 use native.Mathlib.Nat.{suc-add}
-use native.Mathlib.Numerals.{add-one, sub-one}
+use native.Mathlib.Numerals.{sub-one}
 use native.Mathlib.Omega.{arith}
 use mathlib.Core.List.{List, [], _∷_, _++_}
-use mathlib.Core.Bool.{Bool, true, false, cond}
 use lib.ListN.{length, take}
-use lib.Dec.{ltb, leb}
+use lib.Dec.{ltb}
 use borrow.Author.Tests.{lt-ltb, le-ltb, le-leb, ltb-true, ltb-false}
 use Rattle.base.proofs.Tests.{split-on}
-use Rattle.leb128.specs.Field.{Field, sized, unreadable, more, fieldIn, capped, sizeField, form, encodeIn, encode, longestField, largestValue}
+use Rattle.leb128.specs.Field.{sized, fieldIn, capped, sizeField, form, encodeIn, encode, longestField, largestValue}
 use Rattle.leb128.proofs.Reading.{cap, cap-le, Sized, size-within, field-take}
 use Rattle.leb128.proofs.Writing.{cap-step, encode-more, encode-last}
 

@@ -1,10 +1,9 @@
 -- Laws of writing a size field: a step of it, and what the two loops keep. Assumes nothing.
 use mathlib.Core.Path.{_≡_, refl, sym, ap, _∙_}
-use Prim.Native.Nat.{ℕ, zero, suc, _+_, _-_, _*_, _/_, _%_, _≤_, _<_}
+use Prim.Native.Nat.{ℕ, zero, suc, _+_, _-_, _/_, _%_, _≤_, _<_}
 use native.Mathlib.Numerals.{add-one, sub-one}
 use native.Mathlib.Omega.{arith}
 use mathlib.Core.List.{List, [], _∷_}
-use mathlib.Core.Bool.{cond}
 use lib.ListN.{length, set, length-set}
 use lib.Seq.{sets, sets-eq}
 use lib.Bits.{bitAnd, bitOr, and-mask, or-shifted-r}

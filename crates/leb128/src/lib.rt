@@ -58,10 +58,18 @@ fn read_tail(bytes: &[u8], left: usize) -> Tail
     }
 }
 
-// Reads the size field at the front of `bytes`.
+// Reads the size field at the front of `bytes`: one of a single byte, as most are, with no call.
 pub fn read_leb128(bytes: &[u8]) -> SizeRead
     ensures { λ r. ⌜ paper r ≡ sizeField (now (bytes .entry)) ⌝ }
 {
+    if bytes.len() > 0 {
+        if bytes[0] < 128 {
+            return SizeRead::Read(SizeField {
+                value: bytes[0] as u32,
+                used: 1,
+            });
+        }
+    }
     match read_tail(bytes, LONGEST_FIELD) {
         Tail::Read { value, used } => {
             if value <= LARGEST_VALUE {

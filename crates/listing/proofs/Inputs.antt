@@ -1,37 +1,15 @@
 -- The head of an input, by the tests that the code makes. Assumes nothing.
-use mathlib.Core.Path.{_≡_, refl, sym, ap, ap₂, subst, _∙_}
-use Prim.Native.Nat.{ℕ, _+_, _*_, _≤_, _<_}
+use mathlib.Core.Path.{_≡_, refl}
+use Prim.Native.Nat.{ℕ, _≤_, _<_}
 use native.Mathlib.Omega.{arith}
-use mathlib.Core.List.{List, [], _∷_}
-use mathlib.Core.Bool.{Bool, true, false, cond, not, _||_}
-use lib.ListN.{length, getD, take, drop, length-drop}
-use lib.Seq.{getD-drop}
+use mathlib.Core.List.{List}
+use mathlib.Core.Bool.{true, false, not, _||_}
+use lib.ListN.{length, getD}
 use lib.Dec.{ltb, eqb}
-use borrow.Author.Tests.{lt-ltb, le-ltb, ltb-true, ltb-false, eq-eqb, ne-eqb}
-use Rattle.base.proofs.Tests.{by-cond}
-use Rattle.train.specs.Bytes.{valueAfter, valueOf}
-use Rattle.train.proofs.Numbers.{two-value}
+use borrow.Author.Tests.{lt-ltb, le-ltb, ltb-false, eq-eqb, ne-eqb}
+use Rattle.base.proofs.Tests.{by-cond, or-second}
 use Rattle.listing.specs.Input.{version, headBytes, unitStore, Head, bad, states, mtuIn, lengthIn, isBad, headOf, lengthBy, badInput, good, inputRead}
 use Rattle.listing.specs.declared.Stated.{Stated}
-
-four-value : (l : List ℕ) → 4 ≤ length l → (getD l 0 0 * 256 + getD l 1 0) * 65536 + (getD l 2 0 * 256 + getD l 3 0) ≡ valueOf (take 4 l)
-unfolding valueAfter
-four-value [] h = absurd (omega arith)
-four-value (a ∷ []) h = absurd (omega arith)
-four-value (a ∷ b ∷ []) h = absurd (omega arith)
-four-value (a ∷ b ∷ c ∷ []) h = absurd (omega arith)
-four-value (a ∷ b ∷ c ∷ d ∷ l) h = omega arith
-
-module _ (l : List ℕ) (h : headBytes ≤ length l) where
-  pub mtu-is : getD l 1 0 * 256 + getD l 2 0 ≡ mtuIn l
-  mtu-is = rw (← getD-drop 1 l 0 0, ← getD-drop 1 l 1 0) (two-value (drop 1 l) (omega (arith, length-drop 1 l)))
-
-  pub length-is : (getD l 3 0 * 256 + getD l 4 0) * 65536 + (getD l 5 0 * 256 + getD l 6 0) ≡ lengthIn l
-  length-is =
-      rw (← getD-drop 3 l 0 0, ← getD-drop 3 l 1 0, ← getD-drop 3 l 2 0, ← getD-drop 3 l 3 0)
-      (four-value (drop 3 l) (omega (arith, length-drop 3 l)))
-
--- ---- the answers
 
 pub head-cut : (l : List ℕ) → length l < headBytes → bad ≡ headOf l
 unfolding headOf
@@ -52,10 +30,6 @@ module _ (l : List ℕ) (h : headBytes ≤ length l) where
     head-good k = rw (le-ltb (length l) headBytes h, eq-eqb (getD l 0 0) version e, le-ltb unitStore (lengthIn l) k)
 
 -- a stated length fits the store
-or-false : (a b : Bool) → (a || b) ≡ false → b ≡ false
-or-false true b e = cc
-or-false false b e = e
-
 abbrev Fits : Head → Type 0
 Fits x = lengthBy x ≤ unitStore
 
@@ -63,7 +37,7 @@ pub head-fits : (l : List ℕ) → lengthBy (headOf l) ≤ unitStore
 unfolding headOf
 head-fits l =
     by-cond Fits (isBad l) _ _ (λ t. omega arith)
-    (λ t. ltb-false unitStore (lengthIn l) (or-false (ltb (length l) headBytes || not (eqb (getD l 0 0) version)) (ltb unitStore (lengthIn l)) t))
+    (λ t. ltb-false unitStore (lengthIn l) (or-second (ltb (length l) headBytes || not (eqb (getD l 0 0) version)) (ltb unitStore (lengthIn l)) t))
 
 -- ---- the input, by what was read of it
 

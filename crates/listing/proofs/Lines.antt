@@ -1,15 +1,13 @@
 -- The lines of a unit's plan, read from the lists that the plan call leaves. Assumes nothing.
-use mathlib.Core.Path.{_≡_, refl, sym, ap, ap₂, _∙_}
-use Prim.Native.Nat.{ℕ, zero, suc, _+_, _-_, _*_, _≤_, _<_}
+use mathlib.Core.Path.{_≡_, sym, ap, ap₂, _∙_}
+use Prim.Native.Nat.{ℕ, zero, suc, _+_, _≤_, _<_}
 use native.Mathlib.Nat.{add-zero, zero-add}
 use native.Mathlib.Omega.{arith}
-use mathlib.Core.List.{List, [], _∷_, _++_, map}
-use lib.ListN.{length, getD, drop, length-append, length-map, List·getD-append}
+use mathlib.Core.List.{List, [], _∷_, _++_}
+use lib.ListN.{length, getD, length-append, length-map, List·getD-append}
 use Rattle.base.specs.Answers.{given}
-use Rattle.base.specs.Lists.{front}
-use Rattle.obu.specs.Unit.{obusOf, flat}
+use Rattle.obu.specs.Unit.{obusOf}
 use Rattle.obu.specs.declared.Obu.{Obu}
-use Rattle.packetizer.specs.Plan.{flatPlan}
 use Rattle.packetizer.specs.Call.{unitPlan, planAnswer, obusAfter, planAfter}
 use Rattle.packetizer.specs.declared.PacketMetadata.{PacketMetadata}
 use Rattle.packetizer.specs.declared.Planned.{Planned}

@@ -1,15 +1,14 @@
 -- What is read of an input in three parts decides the same as the input as a whole. Assumes nothing.
-use mathlib.Core.Path.{_≡_, refl, sym, ap, _∙_}
-use Prim.Native.Nat.{ℕ, _+_, _-_, _≤_, _<_}
+use mathlib.Core.Path.{_≡_, refl}
+use Prim.Native.Nat.{ℕ, _+_, _≤_, _<_}
 use native.Mathlib.Omega.{arith}
 use mathlib.Core.List.{List, [], _∷_}
-use mathlib.Core.Bool.{Bool, true, false, cond}
-use lib.ListN.{length, getD, take, drop, length-take, length-drop}
-use lib.Dec.{ltb, eqb}
-use borrow.Author.Tests.{lt-ltb, le-ltb, ltb-true, ltb-false, ne-eqb}
-use Rattle.base.proofs.Tests.{split-on}
-use Rattle.train.specs.Bytes.{valueAfter}
-use Rattle.listing.specs.Input.{headBytes, Head, bad, states, headOf, lengthBy, Input, badInput, good, inputBy, inputOf, inputRead}
+use mathlib.Core.Bool.{cond}
+use lib.ListN.{length, take, drop, length-take, length-drop}
+use lib.Dec.{ltb}
+use borrow.Author.Tests.{le-ltb, ltb-true, ltb-false, ne-eqb}
+use Rattle.base.proofs.Tests.{split-on, cond-same}
+use Rattle.listing.specs.Input.{headBytes, Head, bad, states, headOf, lengthBy, badInput, inputBy, inputOf, inputRead}
 
 -- the head is decided by its bytes
 head-front : (l : List ℕ) → headOf (take headBytes l) ≡ headOf l
@@ -23,13 +22,9 @@ head-front (a ∷ b ∷ c ∷ d ∷ e ∷ []) = refl
 head-front (a ∷ b ∷ c ∷ d ∷ e ∷ f ∷ []) = refl
 head-front (a ∷ b ∷ c ∷ d ∷ e ∷ f ∷ g ∷ l) = rw (le-ltb (length (a ∷ b ∷ c ∷ d ∷ e ∷ f ∷ g ∷ l)) headBytes (omega arith))
 
-same : (t : Bool) (x : Input) → cond t x x ≡ x
-same true x = refl
-same false x = refl
-
 module _ (l : List ℕ) where
   by-head : (x : Head) → cond (ltb (headBytes + lengthBy x) (length l)) badInput (inputBy (length (take (lengthBy x) (drop headBytes l))) x) ≡ inputBy (length (drop headBytes l)) x
-  by-head bad = same (ltb (headBytes + 0) (length l)) badInput
+  by-head bad = cond-same (ltb (headBytes + 0) (length l)) badInput
   by-head (states s) = split-on (ltb (headBytes + s .length) (length l))
       (λ t.
       let h : headBytes + s .length < length l = ltb-true (headBytes + s .length) (length l) t in

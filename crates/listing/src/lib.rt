@@ -51,13 +51,6 @@ pub struct Row {
     pub header: u8,
 }
 
-// A number of two bytes, the higher first.
-fn two_bytes(high: u8, low: u8) -> usize
-    ensures { λ r. ⌜ (r ≡ high * 256 + low) × (r < 65536) ⌝ }
-{
-    (high as usize) * 256 + (low as usize)
-}
-
 // The head of an input, or what there is of it.
 fn read_head(head: &[u8]) -> HeadRead
     ensures { λ r. ⌜ paperHead r ≡ headOf (now (head .entry)) ⌝ }
@@ -68,8 +61,8 @@ fn read_head(head: &[u8]) -> HeadRead
     if head[0] != VERSION {
         return HeadRead::Bad;
     }
-    let mtu = two_bytes(head[1], head[2]);
-    let length = two_bytes(head[3], head[4]) * 65536 + two_bytes(head[5], head[6]);
+    let mtu = train::two_bytes(head, 1) as usize;
+    let length = train::four_bytes(head, 3);
     if length > UNIT_STORE {
         return HeadRead::Bad;
     }
@@ -194,17 +187,11 @@ fn print_plan(mtu: usize, unit: &[u8], obus: &mut [u32], plan: &mut [u32]) {
     }
 }
 
-fn smaller(a: usize, b: usize) -> usize
-    ensures { λ r. ⌜ (r ≤ a) × (r ≤ b) ⌝ }
-{
-    if a < b { a } else { b }
-}
-
 // Reads n bytes to the front of a store, as far as they come and as it has space, and returns how many came.
 pub fn read_front(store: &mut [u8], n: usize) -> usize
     ensures { λ r. ⌜ Counts r (now (store .exit)) ⌝ }
 {
-    let most = smaller(n, store.len());
+    let most = base::smaller(n, store.len());
     io::read_full(STDIN_FILENO, &mut store[..most])
 }
 

@@ -1,6 +1,6 @@
 -- The OBU at the front of some bytes, by the tests that the code makes, and what it spans. Assumes nothing.
-use mathlib.Core.Path.{_≡_, refl, sym, ap, subst, _∙_}
-use Prim.Native.Nat.{ℕ, zero, suc, _+_, _-_, _/_, _%_, _≤_, _<_, min}
+use mathlib.Core.Path.{_≡_, refl, sym, ap, _∙_}
+use Prim.Native.Nat.{ℕ, suc, _+_, _-_, _≤_, _<_, min}
 use native.Mathlib.Omega.{arith}
 use mathlib.Core.List.{List, [], _∷_, _++_}
 use mathlib.Core.Bool.{Bool, true, false, cond}
@@ -15,7 +15,7 @@ use Rattle.leb128.specs.Field.{Field, sized, unreadable, sizeField, encode, lon
 use Rattle.leb128.proofs.Reading.{Sized, size-within}
 use Rattle.leb128.proofs.Theorems.{none-shorter, first-eight}
 use Rattle.obu.specs.Header.{extensionBit, sizeBit, headerSize}
-use Rattle.obu.specs.Front.{headBytes, Front, spanOf, Seen, found, stopped, sizedBy, headed, extended, frontOf}
+use Rattle.obu.specs.Front.{headBytes, spanOf, Seen, found, stopped, sizedBy, headed, extended, frontOf}
 
 -- ---- what is read lies in the first ten bytes
 

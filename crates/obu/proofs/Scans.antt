@@ -1,6 +1,6 @@
 -- Going through a unit: a step of the scan, and what the loop over it keeps. Assumes nothing.
 use mathlib.Core.Path.{_≡_, refl, sym, ap, subst, _∙_}
-use Prim.Native.Nat.{ℕ, zero, suc, _+_, _-_, _*_, _/_, _≤_, _<_}
+use Prim.Native.Nat.{ℕ, zero, suc, _+_, _-_, _*_, _≤_, _<_}
 use native.Mathlib.Nat.{add-zero}
 use native.Mathlib.Omega.{arith}
 use mathlib.Core.List.{List, [], _∷_, _++_, append-nil, append-assoc, map, map-append, flatMap}
@@ -9,12 +9,12 @@ use lib.ListN.{length, getD, take, drop, length-append, length-drop, length-map,
 use lib.Seq.{take-all, take-at, getD-at, drop-drop, sets}
 use lib.Dec.{ltb}
 use borrow.Author.Tests.{lt-ltb, le-ltb, ltb-true, ltb-false}
-use Rattle.base.specs.Answers.{Answer, given, refused, stored}
+use Rattle.base.specs.Answers.{given, refused, stored}
 use Rattle.base.specs.Lists.{front, keep}
 use Rattle.base.proofs.Lists.{keep-yes, keep-no, keep-none, keep-append, front-sets, flatMap-append, flatMap-one, flatMap-length}
 use Rattle.base.proofs.Tests.{split-on}
 use Rattle.obu.specs.Header.{typeOf, drops}
-use Rattle.obu.specs.Front.{Front, startOf, spanOf, Seen, found, stopped, frontOf}
+use Rattle.obu.specs.Front.{Front, spanOf, Seen, found, stopped, frontOf}
 use Rattle.obu.specs.Unit.{unitLimit, obuNumbers, Placed, placed, Stop, ended, refusedBy, Scan, followed, scanFrom, scanOf, isKept, keptOf, obusOf, atStop, listed, numbersOf, flat}
 use Rattle.obu.specs.declared.Obu.{Obu}
 use Rattle.obu.proofs.Fronts.{Spans, front-spans}

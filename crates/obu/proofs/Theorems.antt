@@ -10,21 +10,21 @@ use native.Mathlib.Omega.{arith}
 use mathlib.Core.List.{List, [], _∷_, _++_, map, flatMap}
 use mathlib.Core.Bool.{Bool, true, false, cond}
 use mathlib.Core.Logic.{⊎-elim}
-use lib.ListN.{length, getD, take, drop, length-append, length-drop}
+use lib.ListN.{length, getD, drop, length-append, length-drop}
 use lib.Seq.{length-take-le}
 use lib.Dec.{leb, eqb}
 use lib.Pow.{shr-shr}
 use borrow.Author.Tests.{eq-eqb, ne-eqb, eqb-true, eqb-false}
-use Rattle.base.specs.Answers.{Answer, given, refused}
+use Rattle.base.specs.Answers.{given}
 use Rattle.base.specs.Lists.{keep, All}
 use Rattle.base.proofs.Lists.{all-keep}
 use Rattle.base.proofs.Tests.{by-cond}
 use Rattle.leb128.specs.Field.{Field, sized, unreadable, sizeField, encode}
 use Rattle.leb128.proofs.Theorems.{size-most}
 use Rattle.obu.specs.Header.{typeOf, extensionBit, sizeBit, headerSize, cleared, marked, drops}
-use Rattle.obu.specs.Front.{Front, startOf, spanOf, Seen, found, stopped, sizedBy, headed, extended, frontOf}
+use Rattle.obu.specs.Front.{Front, spanOf, Seen, found, stopped, sizedBy, headed, extended, frontOf}
 use Rattle.obu.specs.Unit.{unitLimit, Placed, placed, Scan, followed, scanFrom, scanOf, isKept, keptOf, obusOf}
-use Rattle.obu.specs.Wire.{extensionBytes, payloadOf, sent, exactly, wholeOf, framed, handedOut, wire, wireOf}
+use Rattle.obu.specs.Wire.{extensionBytes, payloadOf, sent, wholeOf, wire, wireOf}
 use Rattle.obu.specs.declared.Obu.{Obu}
 use Rattle.obu.proofs.Fronts.{Spans, front-spans}
 

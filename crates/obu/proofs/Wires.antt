@@ -1,13 +1,12 @@
 -- An OBU of exactly these bytes, and what goes out for it. Assumes nothing.
-use mathlib.Core.Path.{_≡_, refl, sym, ap, _∙_}
+use mathlib.Core.Path.{_≡_}
 use Prim.Native.Nat.{ℕ}
 use mathlib.Core.List.{List}
 use lib.ListN.{length}
-use lib.Dec.{eqb}
 use borrow.Author.Tests.{eq-eqb, ne-eqb}
-use Rattle.base.specs.Answers.{Answer, given, refused}
+use Rattle.base.specs.Answers.{given, refused}
 use Rattle.obu.specs.Front.{Front, spanOf, found, stopped, frontOf}
-use Rattle.obu.specs.Wire.{exactly, wholeOf}
+use Rattle.obu.specs.Wire.{wholeOf}
 
 module _ (all : List ℕ) where
   pub whole-found : (f : Front) → found f ≡ frontOf all → spanOf f ≡ length all → given f ≡ wholeOf all

@@ -1,8 +1,7 @@
 -- The number and values that the rules have for each answer of the code.
-use Prim.Native.Nat.{ℕ, _-_}
+use Prim.Native.Nat.{ℕ}
 use Rattle.base.specs.Refusals.{numberOf}
 use Rattle.base.specs.Answers.{Answer, given, refused}
-use Rattle.obu.specs.Header.{headerSize}
 use Rattle.obu.specs.Front as front
 use Rattle.obu.specs.declared.Head.{Head}
 use Rattle.obu.specs.declared.ObuRead.{ObuRead}

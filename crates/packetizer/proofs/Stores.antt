@@ -3,8 +3,8 @@ use mathlib.Core.Path.{_≡_, refl, sym, ap, _∙_}
 use Prim.Native.Nat.{ℕ, _+_, _*_}
 use native.Mathlib.Omega.{arith}
 use mathlib.Core.Bool.{Bool, true, false}
-use mathlib.Core.List.{List, [], _∷_, _++_, flatMap}
-use lib.ListN.{length, set}
+use mathlib.Core.List.{List, [], _++_, flatMap}
+use lib.ListN.{length}
 use lib.Seq.{sets}
 use Rattle.base.proofs.Lists.{sets-append, flatMap-append, flatMap-length}
 use Rattle.packetizer.specs.Plan.{planNumbers, recordNumbers, flatPlan}

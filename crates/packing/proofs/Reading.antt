@@ -1,37 +1,15 @@
 -- The head and a unit's length, case by case. Assumes nothing.
-use mathlib.Core.Path.{_≡_, refl, sym, ap, ap₂, _∙_}
-use Prim.Native.Nat.{ℕ, zero, suc, _+_, _*_, _≤_, _<_}
+use mathlib.Core.Path.{_≡_, refl, sym, ap₂, _∙_}
+use Prim.Native.Nat.{ℕ, _≤_, _<_}
 use native.Mathlib.Omega.{arith}
 use mathlib.Core.List.{List, [], _∷_}
-use mathlib.Core.Bool.{Bool, true, false, cond, _||_, not}
-use lib.ListN.{length, getD, take, drop, length-drop}
-use lib.Seq.{getD-drop}
-use lib.Dec.{ltb, eqb}
-use Rattle.base.proofs.Tests.{split-on}
+use mathlib.Core.Bool.{cond, _||_}
+use lib.ListN.{length, getD, take, drop}
+use lib.Dec.{ltb}
+use Rattle.base.proofs.Tests.{split-on, or-second}
 use borrow.Author.Tests.{ltb-false, lt-ltb, le-ltb, eq-eqb, ne-eqb}
-use Rattle.train.specs.Bytes.{valueAfter, valueOf}
-use Rattle.train.proofs.Numbers.{two-value}
-use Rattle.packing.specs.Pack.{packVersion, headWidth, unitWidth, unitStore, Head, found, none, headIn, Length, over, stated, cut, lengthIn}
-
-or-second : (a b : Bool) → a || b ≡ false → b ≡ false
-or-second true b e = cc
-or-second false b e = e
-
--- ---- numbers in bytes
-
-pub two-at : (l : List ℕ) (i : ℕ) → i + 2 ≤ length l → getD l i 0 * 256 + getD l (i + 1) 0 ≡ valueOf (take 2 (drop i l))
-two-at l i h =
-    let a : getD (drop i l) 0 0 ≡ getD l i 0 = getD-drop i l 0 0 ∙ ap (λ (j : ℕ). getD l j 0) (omega arith) in
-    let b : getD (drop i l) 1 0 ≡ getD l (i + 1) 0 = getD-drop i l 1 0 in
-    omega (arith, a, b, two-value (drop i l) (omega (arith, length-drop i l)))
-
-pub four-value : (l : List ℕ) → 4 ≤ length l → (getD l 0 0 * 256 + getD l 1 0) * 65536 + (getD l 2 0 * 256 + getD l 3 0) ≡ valueOf (take 4 l)
-unfolding valueAfter
-four-value (a ∷ b ∷ c ∷ d ∷ l) h = omega arith
-four-value [] h = absurd (omega arith)
-four-value (a ∷ []) h = absurd (omega arith)
-four-value (a ∷ b ∷ []) h = absurd (omega arith)
-four-value (a ∷ b ∷ c ∷ []) h = absurd (omega arith)
+use Rattle.train.specs.Bytes.{valueOf}
+use Rattle.packing.specs.Pack.{packVersion, headWidth, unitWidth, unitStore, found, none, headIn, over, stated, cut, lengthIn}
 
 -- ---- the head
 
@@ -45,11 +23,11 @@ module _ (l : List ℕ) where
   head-other h v = rw (le-ltb (length l) headWidth h, ne-eqb (getD l 0 0) packVersion v)
 
   pub head-found : (m f : ℕ) → headWidth ≤ length l → getD l 0 0 ≡ packVersion
-      → m ≡ getD l 1 0 * 256 + getD l 2 0 → f ≡ getD l 3 0 * 256 + getD l 4 0 → found (record { mtu = m; first = f }) ≡ headIn l
+      → m ≡ valueOf (take 2 (drop 1 l)) → f ≡ valueOf (take 2 (drop 3 l)) → found (record { mtu = m; first = f }) ≡ headIn l
   unfolding headIn
   head-found m f h v p q =
       rw (le-ltb (length l) headWidth h, eq-eqb (getD l 0 0) packVersion v)
-      (ap₂ (λ (x y : ℕ). found (record { mtu = x; first = y })) (p ∙ two-at l 1 (omega arith)) (q ∙ two-at l 3 (omega arith)))
+      (ap₂ (λ (x y : ℕ). found (record { mtu = x; first = y })) p q)
 
 -- ---- the length of a unit
 

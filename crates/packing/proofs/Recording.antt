@@ -1,6 +1,6 @@
 -- The records of a unit's packets, and what the loop over the packets keeps. Assumes nothing.
-use mathlib.Core.Path.{_≡_, refl, sym, ap, ap₂, _∙_}
-use Prim.Native.Nat.{ℕ, zero, suc, _+_, _-_, _*_, _%_, _≤_, _<_}
+use mathlib.Core.Path.{_≡_, refl, sym, ap, _∙_}
+use Prim.Native.Nat.{ℕ, _+_, _-_, _≤_, _<_}
 use native.Mathlib.Numerals.{add-one}
 use native.Mathlib.Omega.{arith}
 use mathlib.Core.List.{List, [], _∷_, _++_, flatMap}
@@ -16,7 +16,7 @@ use Rattle.packetizer.proofs.Runs.{Sound}
 use Rattle.aggregation.specs.Header.{noPacket}
 use Rattle.payloader.specs.Payload.{payload, payloadsFrom, payloadsOf, joined}
 use Rattle.payloader.proofs.Packets.{packet-sound}
-use Rattle.payloader.proofs.Totals.{rest, rest-step, rest-end, payload-length}
+use Rattle.payloader.proofs.Totals.{rest, rest-step, payload-length}
 use Rattle.train.specs.Train.{lengthWidth, numberWidth, Packet, headBytes, recordBytes}
 use Rattle.train.proofs.Numbers.{head-length}
 use Rattle.packing.specs.Pack.{nextNumber, numbered, numberAfter, recordsOf}

@@ -2,7 +2,6 @@
 use mathlib.Core.Path.{_≡_, refl}
 use Prim.Native.Nat.{ℕ}
 use mathlib.Core.List.{List, [], _∷_, map, flatMap}
-use lib.ListN.{drop}
 use Rattle.base.specs.Lists.{keep}
 use Rattle.leb128.specs.Field.{fieldIn, encodeIn}
 use Rattle.obu.specs.Front.{frontOf, headed}
@@ -13,7 +12,7 @@ use Rattle.packetizer.specs.Elements.{elementsFrom}
 use Rattle.aggregation.specs.Header.{nOf, byteOf}
 use Rattle.payloader.specs.Payload.{fielded, payload, payloadsFrom}
 use Rattle.train.specs.Bytes.{bigEndian, valueAfter}
-use Rattle.packing.specs.Pack.{Stop, ended, cutAt, refusedAt, headIn, lengthIn, numbered, numberAfter, unitsFrom, unitsIn, packOf}
+use Rattle.packing.specs.Pack.{ended, cutAt, refusedAt, headIn, lengthIn, numbered, numberAfter, unitsFrom, unitsIn, packOf}
 
 -- three units, the first with no kept OBU, over the end of the numbers; the third refused; cut; its length cut; over the store;
 -- without it; no unit; an mtu of 2; an mtu over its limit; another version; a cut head; nothing

@@ -4,14 +4,13 @@ use Prim.Native.Nat.{ℕ, zero, suc, _+_, _-_}
 use native.Mathlib.Omega.{arith}
 use mathlib.Core.List.{List, [], _∷_, _++_, flatMap}
 use mathlib.Core.Bool.{Bool, true, false, cond}
-use lib.ListN.{length, take, drop, length-take}
+use lib.ListN.{length, take, drop}
 use lib.Seq.{take-take, take-append-seam}
 use lib.Dec.{ltb}
-use borrow.Author.Tests.{ltb-true, ltb-false, lt-ltb, le-ltb}
+use borrow.Author.Tests.{le-ltb}
 use Rattle.base.specs.Answers.{Answer, given, refused}
 use Rattle.base.specs.Lists.{front}
-use Rattle.base.proofs.Tests.{split-on}
-use Rattle.base.proofs.Lists.{flatMap-append}
+use Rattle.base.proofs.Lists.{short-front, flatMap-append}
 use Rattle.payloader.specs.Payload.{payloadsOf}
 use Rattle.payloader.specs.declared.Payloads.{Payloads}
 use Rattle.train.specs.Train.{lengthWidth, Packet, recordBytes, trainVersion}
@@ -19,12 +18,6 @@ use Rattle.packing.specs.Pack.{listRecords, outputBytes, headWidth, unit
 use Rattle.packing.specs.Run.{goOn, runBy, runFrom, runHeaded, runOf}
 
 -- ---- what came decides as the whole does
-
--- fewer than n of a list are there if fewer than n of its first n are
-short-front : (n : ℕ) (l : List ℕ) → ltb (length (take n l)) n ≡ ltb (length l) n
-short-front n l = split-on (ltb (length l) n)
-    (λ t. rw t (lt-ltb (length (take n l)) n (omega (arith, length-take n l, ltb-true (length l) n t))))
-    (λ t. rw t (le-ltb (length (take n l)) n (omega (arith, length-take n l, ltb-false (length l) n t))))
 
 head-front : (l : List ℕ) → headIn (take headWidth l) ≡ headIn l
 unfolding headIn
@@ -42,7 +35,7 @@ length-front (b ∷ l) = rw (short-front unitWidth (b ∷ l), take-take 3 3 l (o
 
 -- ---- the units, and their records
 
-numbered-append : (n : ℕ) (ps qs : List (List ℕ)) → numbered n (ps ++ qs) ≡ numbered n ps ++ numbered (numberAfter n ps) qs
+pub numbered-append : (n : ℕ) (ps qs : List (List ℕ)) → numbered n (ps ++ qs) ≡ numbered n ps ++ numbered (numberAfter n ps) qs
 unfolding numbered numberAfter
 numbered-append n [] qs = refl
 numbered-append n (p ∷ ps) qs = ap (λ (l : List Packet). record { number = n; payload = p } ∷ l) (numbered-append (nextNumber n) ps qs)

@@ -1,11 +1,10 @@
 -- One unit to records, by what the payload call answers. Assumes nothing.
 use mathlib.Core.Path.{_≡_, refl, sym, ap, ap₂, _∙_}
-use Prim.Native.Nat.{ℕ, zero, suc, _+_, _*_, _/_, _≤_, _<_}
+use Prim.Native.Nat.{ℕ, suc, _+_, _*_, _/_, _≤_, _<_}
 use native.Mathlib.Nat.{zero-add}
 use native.Mathlib.Omega.{arith}
-use mathlib.Core.List.{List, [], _∷_, _++_, flatMap}
-use mathlib.Core.Bool.{cond}
-use lib.ListN.{length, getD, take, drop, length-append}
+use mathlib.Core.List.{List, [], _∷_, flatMap}
+use lib.ListN.{length, take, drop, length-append}
 use lib.Seq.{take-at, sets, sets-eq}
 use lib.Dec.{ltb}
 use borrow.Author.Tests.{ltb-false, lt-ltb, le-ltb}
@@ -22,7 +21,7 @@ use Rattle.packetizer.specs.declared.Planned.{Planned}
 use Rattle.payloader.specs.Payload.{payloadsFrom, payloadsOf, joined}
 use Rattle.payloader.specs.Call.{written, payloadAnswer, outAfter}
 use Rattle.payloader.specs.declared.Payloads.{Payloads}
-use Rattle.payloader.proofs.Calls.{Accepted, accepted}
+use Rattle.payloader.proofs.Calls.{accepted}
 use Rattle.train.specs.Train.{lengthWidth, recordBytes}
 use Rattle.packing.specs.Pack.{nextNumber, numbered, numberAfter, recordsOf, answerIn, Unit′, cutShort, refusedBy, packed, packedBy, unitIn, storeAfter}
 use Rattle.packing.specs.declared.Records.{Records}

@@ -1,6 +1,6 @@
 -- `pack` as a function on bytes: from its input to the train that it writes (G1 to G4, G6, L12 to L14, T1, T2).
 use Prim.Native.Nat.{ℕ, zero, suc, _+_, _-_, _%_}
-use mathlib.Core.List.{List, [], _∷_, _++_, flatMap}
+use mathlib.Core.List.{List, [], _∷_, flatMap}
 use mathlib.Core.Bool.{cond, not, _||_}
 use lib.ListN.{length, getD, take, drop}
 use lib.Dec.{ltb, eqb}

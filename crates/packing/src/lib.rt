@@ -61,13 +61,6 @@ pub enum UnitAnswer {
     Cut,
 }
 
-// A number of two bytes, the higher first.
-fn two_bytes(high: u8, low: u8) -> u16
-    ensures { λ r. ⌜ r ≡ high * 256 + low ⌝ }
-{
-    (high as u16) * 256 + (low as u16)
-}
-
 // The head of the input, or what there is of it.
 pub fn read_pack_head(bytes: &[u8]) -> PackHeadRead
     ensures { λ r. ⌜ paperHead r ≡ headIn (now (bytes .entry)) ⌝ }
@@ -79,19 +72,9 @@ pub fn read_pack_head(bytes: &[u8]) -> PackHeadRead
         return PackHeadRead::NoHead;
     }
     PackHeadRead::Head(PackHead {
-        mtu: two_bytes(bytes[1], bytes[2]) as usize,
-        first: two_bytes(bytes[3], bytes[4]),
+        mtu: train::two_bytes(bytes, 1) as usize,
+        first: train::two_bytes(bytes, 3),
     })
-}
-
-// A number of four bytes, the highest first.
-fn four_bytes(bytes: &[u8]) -> usize
-    requires { ⌜ 4 ≤ length (now bytes) ⌝ }
-    ensures { λ r. ⌜ r ≡ valueOf (take 4 (now (bytes .entry))) ⌝ }
-{
-    let high = two_bytes(bytes[0], bytes[1]) as usize;
-    let low = two_bytes(bytes[2], bytes[3]) as usize;
-    high * 65536 + low
 }
 
 // The length of the next unit, or what there is of it.
@@ -104,7 +87,7 @@ pub fn read_unit_length(bytes: &[u8]) -> UnitLength
     if bytes.len() < UNIT_WIDTH {
         return UnitLength::Cut;
     }
-    let stated = four_bytes(bytes);
+    let stated = train::four_bytes(bytes, 0);
     if UNIT_STORE < stated {
         return UnitLength::Cut;
     }

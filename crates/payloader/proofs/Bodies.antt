@@ -1,10 +1,10 @@
 -- The elements of a record, written one after the other: what the loop over them keeps. Assumes nothing.
-use mathlib.Core.Path.{_≡_, refl, sym, ap, ap₂, _∙_}
-use Prim.Native.Nat.{ℕ, zero, suc, _+_, _-_, _*_, _≤_, _<_}
+use mathlib.Core.Path.{_≡_, refl, sym, ap, _∙_}
+use Prim.Native.Nat.{ℕ, zero, suc, _+_, _-_, _≤_, _<_}
 use native.Mathlib.Numerals.{sub-one}
 use native.Mathlib.Omega.{arith}
-use mathlib.Core.List.{List, [], _∷_, _++_, map}
-use mathlib.Core.Bool.{Bool, true, false, cond}
+use mathlib.Core.List.{List, [], _++_, map}
+use mathlib.Core.Bool.{Bool, cond}
 use lib.ListN.{length, getD, take, drop, length-append, length-drop, List·getD-map}
 use lib.Seq.{sets, length-take-le}
 use lib.Dec.{eqb}
@@ -12,13 +12,12 @@ use borrow.Author.Tests.{eq-eqb, ne-eqb}
 use Rattle.base.proofs.Lists.{sets-append}
 use Rattle.base.proofs.Tests.{by-cond}
 use Rattle.leb128.specs.Field.{encode}
-use Rattle.obu.specs.Header.{headerSize}
 use Rattle.obu.specs.Wire.{extensionBytes, payloadOf, sent}
 use Rattle.obu.specs.declared.Obu.{Obu}
 use Rattle.obu.proofs.Theorems.{extension-length, payload-length}
-use Rattle.packetizer.specs.Elements.{Element, element, elementsFrom}
+use Rattle.packetizer.specs.Elements.{elementsFrom}
 use Rattle.aggregation.specs.Header.{noObu}
-use Rattle.payloader.specs.Payload.{partOf, partsOf, fielded}
+use Rattle.payloader.specs.Payload.{partsOf, fielded}
 use Rattle.payloader.proofs.Units.{Lies}
 
 abbrev pub sizes : List Obu → List ℕ

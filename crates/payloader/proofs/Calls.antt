@@ -1,10 +1,9 @@
 -- The payload call, by what the plan call answers. Assumes nothing.
-use mathlib.Core.Path.{_≡_, refl, sym, ap, ap₂, _∙_}
-use Prim.Native.Nat.{ℕ, zero, suc, _+_, _-_, _*_, _/_, _≤_, _<_}
+use mathlib.Core.Path.{_≡_, refl, sym, ap, _∙_}
+use Prim.Native.Nat.{ℕ, suc, _*_, _/_, _≤_, _<_}
 use native.Mathlib.Nat.{zero-add}
 use native.Mathlib.Omega.{arith}
-use mathlib.Core.List.{List, [], _∷_, _++_, map}
-use mathlib.Core.Bool.{Bool, true, false, cond}
+use mathlib.Core.List.{List, [], _∷_}
 use lib.ListN.{length, getD, take, drop, length-map}
 use lib.Seq.{take-at, sets, sets-eq}
 use lib.Dec.{ltb}
@@ -12,24 +11,21 @@ use borrow.Author.Tests.{lt-ltb, le-ltb, ltb-true, ltb-false}
 use Rattle.base.specs.Answers.{Answer, given, refused, stored}
 use Rattle.base.specs.Lists.{front}
 use Rattle.base.proofs.Tests.{split-on}
-use Rattle.obu.specs.Unit.{unitLimit, obuNumbers, Placed, keptOf, obusOf, flat, listAnswer, listAfter}
+use Rattle.obu.specs.Unit.{unitLimit, obuNumbers, Placed, keptOf, obusOf, flat, listAnswer}
 use Rattle.obu.specs.declared.Obu.{Obu}
 use Rattle.obu.proofs.Scans as scans
-use Rattle.obu.proofs.Theorems.{Bytes}
-use Rattle.packetizer.specs.Plan.{leastMtu, planNumbers, flatPlan}
+use Rattle.packetizer.specs.Plan.{planNumbers, flatPlan}
 use Rattle.packetizer.specs.Call.{mtuLimit, sizesOf, unitPlan, planned, planAnswer, obusAfter, planAfter}
 use Rattle.packetizer.specs.declared.PacketMetadata.{PacketMetadata}
 use Rattle.packetizer.specs.declared.Planned.{Planned}
 use Rattle.packetizer.proofs.Stores as stores
 use Rattle.packetizer.proofs.Turns.{plan-few}
 use Rattle.packetizer.proofs.Calls.{given-kept, kept-count, unit-small}
-use Rattle.packetizer.proofs.Runs.{Sound}
 use Rattle.aggregation.specs.Header.{noPacket}
 use Rattle.payloader.specs.Payload.{plannedBytes, payloadsOf, joined}
 use Rattle.payloader.specs.Call.{written, payloadAnswer, outAfter}
 use Rattle.payloader.specs.declared.Payloads.{Payloads}
 use Rattle.payloader.proofs.Packets.{mtu-least, packet-sound}
-use Rattle.payloader.proofs.Totals.{joined-length}
 
 -- ---- what is known where the plan call answers with numbers
 

@@ -1,31 +1,30 @@
 -- A packet of a unit's plan: its record, its header, and what its elements take. Assumes nothing.
 use mathlib.Core.Path.{_≡_, refl, sym, ap, ap₂, _∙_}
-use Prim.Native.Nat.{ℕ, zero, suc, _+_, _-_, _*_, _≤_, _<_}
+use Prim.Native.Nat.{ℕ, _+_, _-_, _≤_, _<_}
 use native.Mathlib.Numerals.{add-one}
 use native.Mathlib.Omega.{arith}
-use mathlib.Core.List.{List, [], _∷_, _++_, map, append-nil}
-use mathlib.Core.Bool.{Bool, cond}
+use mathlib.Core.List.{List, [], _∷_, append-nil}
+use mathlib.Core.Bool.{Bool}
 use lib.ListN.{length, getD, set, length-map, length-set}
 use lib.Seq.{sets}
-use lib.Dec.{ltb, leb, eqb}
+use lib.Dec.{ltb, leb}
 use borrow.Author.Tests.{leb-true, leb-false}
 use Rattle.base.specs.Answers.{given}
 use Rattle.base.proofs.Tests.{split-on}
 use Rattle.leb128.specs.Field.{encode}
 use Rattle.obu.specs.Unit.{unitLimit, obusOf, flat}
 use Rattle.obu.specs.declared.Obu.{Obu}
-use Rattle.packetizer.specs.Plan.{leastMtu, mostCounted, newPacket, planOf, flatPlan}
+use Rattle.packetizer.specs.Plan.{leastMtu, mostCounted, flatPlan}
 use Rattle.packetizer.specs.Call.{sizesOf, unitPlan}
 use Rattle.packetizer.specs.declared.PacketMetadata.{PacketMetadata}
 use Rattle.packetizer.proofs.Runs.{Sound}
 use Rattle.packetizer.proofs.Planning.{plan-low}
 use Rattle.packetizer.proofs.Laws.{plan-sound}
 use Rattle.packetizer.proofs.Calls.{unit-small}
-use Rattle.aggregation.specs.Header.{noObu, noPacket, byteOf, headerOf}
+use Rattle.aggregation.specs.Header.{noPacket, byteOf, headerOf}
 use Rattle.aggregation.specs.Flat.{obusIn, packetsIn}
 use Rattle.aggregation.proofs.Headers.{header-lent}
 use Rattle.payloader.specs.Payload.{payload}
-use Rattle.payloader.proofs.Units.{obus-flat, packets-flat}
 use Rattle.payloader.proofs.Bodies.{size-at, body, Writing}
 
 module _ (mtu : ℕ) (unit : List ℕ) (k : ℕ) (small : length unit ≤ unitLimit) (there : k < length (unitPlan mtu unit)) where

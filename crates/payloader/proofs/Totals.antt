@@ -1,15 +1,15 @@
 -- How many bytes payloads take, and all payloads one after the other. Assumes nothing.
 use mathlib.Core.Path.{_≡_, refl, sym, ap, ap₂, _∙_}
-use Prim.Native.Nat.{ℕ, zero, suc, _+_, _-_, _*_, _≤_, _<_}
+use Prim.Native.Nat.{ℕ, zero, suc, _+_, _-_, _≤_, _<_}
 use native.Mathlib.Nat.{add-zero}
-use native.Mathlib.Numerals.{add-one, sub-one}
+use native.Mathlib.Numerals.{add-one}
 use native.Mathlib.Omega.{arith}
-use mathlib.Core.List.{List, [], _∷_, _++_, map, flatMap}
+use mathlib.Core.List.{List, [], _++_, flatMap}
 use mathlib.Core.Bool.{Bool, true, false, cond}
-use lib.ListN.{length, getD, take, drop, length-append, length-map, drop-of-length-le}
+use lib.ListN.{length, getD, drop, length-append, length-map, drop-of-length-le}
 use lib.Seq.{drop-cons, sets}
 use lib.Dec.{ltb, eqb}
-use borrow.Author.Tests.{eq-eqb, ne-eqb}
+use borrow.Author.Tests.{ne-eqb}
 use Rattle.base.proofs.Lists.{sets-append}
 use Rattle.base.proofs.Tests.{by-cond}
 use Rattle.leb128.specs.Field.{encode}
@@ -18,12 +18,12 @@ use Rattle.obu.specs.declared.Obu.{Obu}
 use Rattle.obu.proofs.Theorems.{Bytes}
 use Rattle.packetizer.specs.Fragment.{fieldSize}
 use Rattle.packetizer.specs.Plan.{mostCounted}
-use Rattle.packetizer.specs.Elements.{Element, element, elementsFrom, elementsOf, elementBytes, fieldBytes, bodySize}
+use Rattle.packetizer.specs.Elements.{elementsFrom, elementsOf, elementBytes, fieldBytes}
 use Rattle.packetizer.specs.Call.{sizesOf, unitPlan}
 use Rattle.packetizer.specs.declared.PacketMetadata.{PacketMetadata}
 use Rattle.packetizer.proofs.Bodies.{elements-count}
 use Rattle.packetizer.proofs.Runs.{Sound}
-use Rattle.aggregation.specs.Header.{noObu, noPacket, byteOf}
+use Rattle.aggregation.specs.Header.{noObu, noPacket}
 use Rattle.payloader.specs.Payload.{payload, payloadsFrom, plannedBytes, payloadsOf, joined}
 use Rattle.payloader.proofs.Units.{Lies, obu-lies}
 use Rattle.payloader.proofs.Bodies.{sizes, size-at, part, part-length, body, body-two, body-last}

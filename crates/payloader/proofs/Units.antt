@@ -1,14 +1,13 @@
 -- A unit's kept OBUs by their place in the list, and in the flat list that holds them. Assumes nothing.
-use mathlib.Core.Path.{_≡_, refl, sym, ap, _∙_}
-use Prim.Native.Nat.{ℕ, zero, suc, _+_, _*_, _≤_, _<_}
+use mathlib.Core.Path.{_≡_, sym, ap, _∙_}
+use Prim.Native.Nat.{ℕ, zero, suc, _+_, _≤_, _<_}
 use native.Mathlib.Omega.{arith}
-use mathlib.Core.List.{List, [], _∷_, _++_, map, append-nil, flatMap}
+use mathlib.Core.List.{List, [], _∷_, map, append-nil}
 use lib.ListN.{length, getD, length-map}
 use Rattle.base.specs.Lists.{All}
 use Rattle.obu.specs.Header.{headerSize}
-use Rattle.obu.specs.Unit.{obuNumbers, Placed, keptOf, obusOf, flat}
+use Rattle.obu.specs.Unit.{Placed, keptOf, obusOf, flat}
 use Rattle.obu.specs.declared.Obu.{Obu}
-use Rattle.obu.proofs.Scans.{flat-length}
 use Rattle.obu.proofs.Theorems.{Inside, kept-inside, Bytes, Small, kept-small}
 use Rattle.packetizer.specs.Plan.{flatPlan}
 use Rattle.packetizer.specs.declared.PacketMetadata.{PacketMetadata}

@@ -1,6 +1,6 @@
 -- The payload call: its answer, and what it leaves in the output (R10, C2, C5 to C7, C10). The two lists are left as by the plan call.
 use Prim.Native.Nat.{ℕ}
-use mathlib.Core.List.{List, flatMap}
+use mathlib.Core.List.{List}
 use mathlib.Core.Bool.{cond}
 use lib.ListN.{length}
 use lib.Dec.{ltb}

@@ -4,7 +4,7 @@ use base::Refusal;
 use obu::Obu;
 use packetizer::PlanAnswer;
 ghost use mathlib.Core.Path.{_≡_};
-ghost use Prim.Native.Nat.{ℕ, _+_, _-_, _*_, _/_, _^_, _≤_, _<_, min};
+ghost use Prim.Native.Nat.{ℕ, _+_, _-_, _*_, _/_, _^_, _≤_, _<_};
 ghost use mathlib.Core.Bool.{Bool, cond};
 ghost use mathlib.Core.List.{List, [], _∷_, _++_};
 ghost use lib.ListN.{length, getD, take, drop};
@@ -33,12 +33,6 @@ pub struct Payloads {
 pub enum PayloadAnswer {
     Written(Payloads),
     Refused { refusal: Refusal, at: usize },
-}
-
-fn smaller(a: usize, b: usize) -> usize
-    ensures { λ r. ⌜ r ≡ min a b ⌝ }
-{
-    if a < b { a } else { b }
 }
 
 // The difference, or 0.
@@ -93,7 +87,7 @@ fn put_part(unit: &[u8], o: Obu, from: usize, n: usize, out: &mut [u8], at: usiz
     ensures { λ r. ⌜ (r ≡ at + n) × (now (out .exit) ≡ sets (now (out .entry)) at (take n (drop from (sent (now (unit .entry)) o)))) ⌝ }
 {
     let head = obu::header_size(o.header);
-    let inside = smaller(n, beyond(head, from));
+    let inside = base::smaller(n, beyond(head, from));
     put_head(o, from, inside, out, at);
     let start = o.start as usize + beyond(from, head);
     base::copy_bytes(unit, start, n - inside, out, at + inside)

@@ -1,7 +1,6 @@
 // Runs of `planlist` beyond its example (G8 to G11): each case is a length of 16 bits, the higher byte first, and so many
 // bytes that `planlist` would read; what it would print is printed for each, one after the other.
 use libc::STDIN_FILENO;
-ghost use Prim.Native.Nat.{_≤_};
 
 // More than any case has.
 const INPUT_STORE: usize = 65535;
@@ -9,22 +8,11 @@ const INPUT_STORE: usize = 65535;
 // More than there are cases.
 const MOST_CASES: usize = 1000;
 
-fn smaller(a: usize, b: usize) -> usize
-    ensures { λ r. ⌜ (r ≤ a) × (r ≤ b) ⌝ }
-{
-    if a < b { a } else { b }
-}
-
-// A number of two bytes, the higher first.
-fn two_bytes(high: u8, low: u8) -> usize {
-    (high as usize) * 256 + (low as usize)
-}
-
 // One case: as many bytes as `planlist` would read for the head and for the unit, and whether there are more.
 fn run(input: &[u8], obus: &mut [u32], plan: &mut [u32]) {
-    let head = smaller(input.len(), listing::HEAD_BYTES);
+    let head = base::smaller(input.len(), listing::HEAD_BYTES);
     let length = listing::unit_length(&input[..head]);
-    let end = head + smaller(length, input.len() - head);
+    let end = head + base::smaller(length, input.len() - head);
     listing::print_listing(
         &input[..head],
         &input[head..end],
@@ -40,7 +28,7 @@ fn next(input: &mut [u8], obus: &mut [u32], plan: &mut [u32]) -> bool {
     if io::read_full(STDIN_FILENO, &mut field) < 2 {
         return false;
     }
-    let came = listing::read_front(input, two_bytes(field[0], field[1]));
+    let came = listing::read_front(input, train::two_bytes(&field, 0) as usize);
     run(&input[..came], obus, plan);
     true
 }

@@ -16,10 +16,10 @@ use Rattle.obu.specs.Wire as obu
 use Rattle.element.specs.Header.{zBit, wOf, nBit}
 use Rattle.element.specs.Elements.{payloadLimit, payloadElements, elementsOf, counting, untilEnd, exactly, elementAt, counted, first, followed}
 use Rattle.element.specs.declared.Part.{Part}
+use Rattle.handing.specs.Handing.{fragmentLimit, before, wires}
 use Rattle.receiver.specs.Packet.{Packet, packetBy, packetOf}
 use Rattle.receiver.specs.Joining.{Held, ahead, next, out}
-use Rattle.receiver.specs.Handing.{before, wires}
-use Rattle.receiver.specs.Call.{fragmentLimit, fitted, opened, taken}
+use Rattle.receiver.specs.Call.{fitted, opened, taken}
 
 -- it is not 14
 abbrev Other : {A : Type 0} → Answer A → Type 0

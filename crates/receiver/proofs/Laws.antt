@@ -8,53 +8,29 @@
 --     held-again       state and store, as a call leaves them, hold what the call leads to
 --     answer-within    what goes out is within the output
 --     store-length, output-length    store and output keep their lengths
---     wires-append, wires-each       what goes out for OBUs one after the other
-use mathlib.Core.Path.{_≡_, refl, sym, ap, subst, _∙_}
+use mathlib.Core.Path.{_≡_, refl, ap, subst, _∙_}
 use Prim.Native.Nat.{ℕ, _≤_}
 use native.Mathlib.Omega.{arith}
-use mathlib.Core.List.{List, [], _∷_, _++_, append-assoc, flatMap}
+use mathlib.Core.List.{List}
 use mathlib.Core.Bool.{Bool, true, false, cond, _||_}
 use lib.ListN.{length, drop}
 use lib.Seq.{take-append-seam}
 use lib.Dec.{eqb, ltb}
 use borrow.Author.Tests.{le-ltb, ltb-false, ne-eqb}
 use Rattle.base.specs.Answers.{Answer, given, refused}
-use Rattle.base.specs.Lists.{front, All}
+use Rattle.base.specs.Lists.{front}
 use Rattle.base.proofs.Tests.{by-cond}
-use Rattle.obu.specs.Wire.{wire}
 use Rattle.element.specs.Elements.{payloadLimit, payloadElements}
 use Rattle.element.specs.declared.Part.{Part}
+use Rattle.handing.specs.Handing.{fragmentLimit, wires}
+use Rattle.handing.proofs.Cursors.{payload-some, payload-small}
+use Rattle.handing.proofs.Lists.{front-length}
 use Rattle.receiver.specs.Packet.{Packet, packetBy, packetOf}
 use Rattle.receiver.specs.Joining.{Held, fresh, ahead, next, out}
-use Rattle.receiver.specs.Handing.{before, wires}
-use Rattle.receiver.specs.Call.{fragmentLimit, Taken, fitted, opened, taken, heldIn, stateOf, outcome, answered, receiveAnswer, storeBy, outputBy, storeAfter, outputAfter}
+use Rattle.receiver.specs.Call.{Taken, fitted, opened, taken, heldIn, stateOf, outcome, answered, receiveAnswer, storeBy, outputBy, storeAfter, outputAfter}
 use Rattle.receiver.specs.declared.State.{State}
 use Rattle.receiver.specs.declared.Received.{Received}
-use Rattle.receiver.proofs.Cursors.{payload-some, payload-small}
-use Rattle.receiver.proofs.Lists.{front-length}
 use Rattle.receiver.proofs.Takes.{fitted-all}
-
--- ---- what goes out for OBUs one after the other
-
-before-assoc : (x y z : Answer (List ℕ)) → before (before x y) z ≡ before x (before y z)
-before-assoc (refused n at) y z = refl
-before-assoc (given a) (refused n at) z = refl
-before-assoc (given a) (given b) (refused n at) = refl
-before-assoc (given a) (given b) (given c) = ap given (append-assoc a b c)
-
-before-nothing : (x : Answer (List ℕ)) → before (given []) x ≡ x
-before-nothing (given b) = refl
-before-nothing (refused n at) = refl
-
-pub wires-append : (l m : List (List ℕ)) → wires (l ++ m) ≡ before (wires l) (wires m)
-unfolding wires
-wires-append [] m = sym (before-nothing (wires m))
-wires-append (o ∷ l) m = ap (before (wire o)) (wires-append l m) ∙ sym (before-assoc (wire o) (wires l) (wires m))
-
-pub wires-each : (give : List ℕ → List ℕ) (os : List (List ℕ)) → All (λ (o : List ℕ). wire o ≡ given (give o)) os → wires os ≡ given (flatMap give os)
-unfolding wires flatMap
-wires-each give [] h = refl
-wires-each give (o ∷ os) h = rw (h .0, wires-each give os (h .1))
 
 -- ---- a packet that was read
 

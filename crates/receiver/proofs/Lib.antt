@@ -1,10 +1,5 @@
 pub mod Rows
 pub mod Numbers
-pub mod Lists
-pub mod Across
-pub mod Framing
-pub mod Cursors
-pub mod Turns
 pub mod Opens
 pub mod Takes
 pub mod Outcomes

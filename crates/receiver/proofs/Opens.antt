@@ -12,12 +12,13 @@ use Rattle.base.specs.Answers.{given}
 use Rattle.base.proofs.Tests.{by-cond, split-on}
 use Rattle.element.specs.Elements.{bytesOf, nowhere, payloadElements}
 use Rattle.element.specs.declared.Part.{Part}
+use Rattle.handing.specs.Inside.{partsOf, led}
+use Rattle.handing.specs.Paper.{fragmentOf}
+use Rattle.handing.specs.declared.Fragment.{Fragment}
+use Rattle.handing.proofs.Cursors.{part-at}
+use Rattle.handing.proofs.Turns.{led-none}
 use Rattle.receiver.specs.Joining.{joined, finished, left}
-use Rattle.receiver.specs.Inside.{partsOf, led, thrown, finishedEnd}
-use Rattle.receiver.specs.Paper.{fragmentOf}
-use Rattle.receiver.specs.declared.handing.Fragment.{Fragment}
-use Rattle.receiver.proofs.Cursors.{part-at}
-use Rattle.receiver.proofs.Turns.{led-none}
+use Rattle.receiver.specs.Inside.{thrown, finishedEnd}
 
 -- ---- the last one
 

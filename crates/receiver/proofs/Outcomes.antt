@@ -11,10 +11,11 @@ use Rattle.element.specs.Elements.{nowhere, chosen, payloadElements, payloadLim
 use Rattle.element.specs.Paper.{walked}
 use Rattle.element.specs.declared.Part.{Part}
 use Rattle.element.specs.declared.Walked.{Walked}
+use Rattle.handing.specs.Handing.{fragmentLimit}
+use Rattle.handing.specs.Inside.{partsBy}
 use Rattle.receiver.specs.Packet.{packetBy, packetOf}
 use Rattle.receiver.specs.Joining.{Held, isAhead}
-use Rattle.receiver.specs.Call.{fragmentLimit, opened, taken, heldIn, outcome}
-use Rattle.receiver.specs.Inside.{partsBy}
+use Rattle.receiver.specs.Call.{opened, taken, heldIn, outcome}
 use Rattle.receiver.specs.declared.State.{State}
 
 module _ (state : State) (number : ℕ) (payload store output : List ℕ) where

@@ -8,8 +8,8 @@ use Rattle.leb128.specs.Field.{fieldIn, encodeIn}
 use Rattle.obu.specs.Front.{frontOf, headed}
 use Rattle.obu.specs.Wire.{wholeOf, wire}
 use Rattle.element.specs.Elements.{elementAt, untilEnd, exactly, counting, elementsOf, payloadElements}
+use Rattle.handing.specs.Handing.{wires}
 use Rattle.receiver.specs.Joining.{Held, fresh, isAhead, isInStep, joined, finished, left, handed, keptOpen, next, out}
-use Rattle.receiver.specs.Handing.{wires}
 use Rattle.receiver.specs.Call.{Taken, taken, outcome, receiveAnswer, storeAfter, outputAfter}
 use Rattle.receiver.specs.declared.State.{State}
 use Rattle.receiver.specs.declared.Received.{Received}

@@ -15,12 +15,11 @@ use Rattle.element.specs.Elements.{payloadLimit, bytesOf, payloadElements}
 use Rattle.element.specs.declared.Part.{Part}
 use Rattle.element.proofs.Laws.{bytes-length}
 use Rattle.element.proofs.Order.{InOrder, in-order, checked}
+use Rattle.handing.specs.Handing.{fragmentLimit, before, wires}
+use Rattle.handing.proofs.Cursors.{payload-some}
+use Rattle.handing.proofs.Turns.{wire-grows}
 use Rattle.receiver.specs.Packet.{Packet, packetBy, packetOf}
 use Rattle.receiver.specs.Joining.{joined, finished, handed}
-use Rattle.receiver.specs.Handing.{before, wires}
-use Rattle.receiver.specs.Call.{fragmentLimit}
-use Rattle.receiver.proofs.Cursors.{payload-some}
-use Rattle.receiver.proofs.Turns.{wire-grows}
 
 -- the bytes of several elements
 unfoldable pub total : List (List ℕ) → ℕ

@@ -13,16 +13,17 @@ use Rattle.base.specs.Lists.{replaced, front}
 use Rattle.base.proofs.Tests.{by-cond}
 use Rattle.element.specs.Header.{zBit, yBit}
 use Rattle.element.specs.Elements.{bytesOf, nowhere, payloadElements}
+use Rattle.handing.specs.Handing.{fragmentLimit, wires}
+use Rattle.handing.specs.Inside.{partsOf, cursorOf, led, between}
+use Rattle.handing.specs.Paper.{fragmentOf}
+use Rattle.handing.specs.declared.Fragment.{Fragment}
+use Rattle.handing.proofs.Across.{across-length}
 use Rattle.receiver.specs.Packet.{packetBy, packetOf}
 use Rattle.receiver.specs.Joining.{Held, isAhead, isInStep, joinable, joined, finished, left, handed, keptOpen, next, out}
-use Rattle.receiver.specs.Handing.{wires}
-use Rattle.receiver.specs.Call.{fragmentLimit, Taken, fitted, opened, heldIn, answered, storeBy, outputBy}
-use Rattle.receiver.specs.Inside.{partsOf, cursorOf, led, between, keptBytes, thrown, finishedEnd}
-use Rattle.receiver.specs.Paper.{fragmentOf}
+use Rattle.receiver.specs.Call.{Taken, fitted, opened, heldIn, answered, storeBy, outputBy}
+use Rattle.receiver.specs.Inside.{keptBytes, thrown, finishedEnd}
 use Rattle.receiver.specs.declared.State.{State}
 use Rattle.receiver.specs.declared.Received.{Received}
-use Rattle.receiver.specs.declared.handing.Fragment.{Fragment}
-use Rattle.receiver.proofs.Across.{across-length}
 use Rattle.receiver.proofs.Opens.{Left, joined-is, finished-is}
 
 -- ---- R19, R20

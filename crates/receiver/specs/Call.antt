@@ -7,15 +7,11 @@ use lib.Dec.{ltb, eqb}
 use Rattle.base.specs.Answers.{Answer, given, refused}
 use Rattle.base.specs.Lists.{front}
 use Rattle.element.specs.Elements.{payloadLimit}
+use Rattle.handing.specs.Handing.{fragmentLimit, wires}
 use Rattle.receiver.specs.Packet.{Packet, packetOf}
 use Rattle.receiver.specs.Joining.{Held, ahead, next, out}
-use Rattle.receiver.specs.Handing.{wires}
 use Rattle.receiver.specs.declared.State.{State}
 use Rattle.receiver.specs.declared.Received.{Received}
-
--- L4
-abbrev pub fragmentLimit : ℕ
-fragmentLimit = 1048576
 
 -- what a packet that is taken leads to: what is then held, and the bytes handed out
 pub record Taken : Type 0 where

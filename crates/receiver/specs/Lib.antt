@@ -1,6 +1,5 @@
 pub mod Packet
 pub mod Joining
-pub mod Handing
 pub mod Call
 pub mod Inside
 pub mod Paper

@@ -1,7 +1,7 @@
 // The receiver (V1 to V17): one packet taken, its finished OBUs handed out, the fragment that it leaves open kept in the store.
-mod handing;
-
 use base::Refusal;
+use element::ElementRead;
+use element::Part;
 use element::Walk;
 use handing::Fragment;
 use handing::HandedOut;
@@ -13,11 +13,14 @@ ghost use lib.ListN.{length, take, drop, getD};
 ghost use lib.Dec.{eqb};
 ghost use Rattle.base.specs.Answers.{given};
 ghost use Rattle.element.specs.Elements.{payloadElements, bytesOf, nowhere};
+ghost use Rattle.handing.specs.Handing.{fragmentLimit};
+ghost use Rattle.handing.specs.Inside.{partsOf, led};
+ghost use Rattle.handing.specs.Paper.{fragmentOf};
 ghost use Rattle.receiver.specs.Joining.{distance, isAhead, isInStep, left};
 ghost use Rattle.receiver.specs.Packet.{packetOf};
-ghost use Rattle.receiver.specs.Call.{fragmentLimit, heldIn, opened, answered, storeBy, outputBy, receiveAnswer, storeAfter, outputAfter};
-ghost use Rattle.receiver.specs.Inside.{partsOf, led, keptBytes, thrown, finishedEnd};
-ghost use Rattle.receiver.specs.Paper.{paper, fragmentOf};
+ghost use Rattle.receiver.specs.Call.{heldIn, opened, answered, storeBy, outputBy, receiveAnswer, storeAfter, outputAfter};
+ghost use Rattle.receiver.specs.Inside.{keptBytes, thrown, finishedEnd};
+ghost use Rattle.receiver.specs.Paper.{paper};
 
 // The most bytes of an open fragment, and the furthest that a packet can be ahead.
 const FRAGMENT_LIMIT: usize = 1048576;
@@ -120,6 +123,31 @@ fn last_kept(n: usize, joined: usize) -> usize
     if n == 1 { joined } else { 0 }
 }
 
+// The last of n elements: an only one is read where it stands.
+fn last_element(payload: &[u8], n: usize) -> Part
+    requires { ⌜ (payloadElements (now payload) ≡ given (partsOf (now payload))) × (n ≡ length (partsOf (now payload))) ⌝ }
+    ensures { λ r. ⌜ r ≡ getD (partsOf (now (payload .entry))) (n - 1) nowhere ⌝ }
+{
+    if n == 1 {
+        let field = element::has_field(element::header_w(payload[0]), 0);
+        if let ElementRead::Found(part) = element::read_element(payload, 1, field) {
+            return part;
+        }
+    }
+    match element::walk_elements(payload, n - 1) {
+        Walk::Whole(all) => {
+            let last = all.kept;
+            last
+        }
+        // never, since the elements were read before
+        Walk::Refused { refusal: _, at: _ } => Part {
+            start: 0,
+            length: 0,
+            next: 0,
+        },
+    }
+}
+
 // What is left open of elements `from` up to n: with Y the last, else nothing.
 fn left_open(payload: &[u8], y: bool, from: usize, n: usize, joined: usize) -> Fragment
     requires { ⌜ (payloadElements (now payload) ≡ given (partsOf (now payload))) × (n ≡ length (partsOf (now payload))) ⌝ }
@@ -129,24 +157,12 @@ fn left_open(payload: &[u8], y: bool, from: usize, n: usize, joined: usize) -> F
 {
     if y {
         if from < n {
-            match element::walk_elements(payload, n - 1) {
-                Walk::Whole(all) => {
-                    let last = all.kept;
-                    return Fragment {
-                        kept: last_kept(n - from, joined),
-                        start: last.start,
-                        size: last.length,
-                    };
-                }
-                // never, since the elements were read before
-                Walk::Refused { refusal: _, at: _ } => {
-                    return Fragment {
-                        kept: 0,
-                        start: 0,
-                        size: 0,
-                    };
-                }
-            }
+            let last = last_element(payload, n);
+            return Fragment {
+                kept: last_kept(n - from, joined),
+                start: last.start,
+                size: last.length,
+            };
         }
     }
     Fragment {
@@ -180,7 +196,7 @@ fn take_packet(
     let from = thrown_away(z, joined);
     let cursor = first_cursor(from, next);
     let to = finished_end(y, n);
-    match handing::hand_out(payload, cursor, from, to, store, joined, out, false) {
+    match handing::count_out(payload, cursor, from, to, store, joined, out) {
         HandedOut::Refused(refusal) => Receipt::Refused(refusal),
         HandedOut::Bytes(bytes) => {
             let left = left_open(payload, y, from, n, joined);
@@ -194,7 +210,7 @@ fn take_packet(
             if bytes > out.len() {
                 return Receipt::Refused(Refusal::OutputTooShort);
             }
-            handing::hand_out(payload, cursor, from, to, store, joined, out, true);
+            handing::write_out(payload, cursor, from, to, store, joined, out);
             handing::copy(store, left.kept, payload, left.start, left.size);
             Receipt::Received(Received {
                 state: State {

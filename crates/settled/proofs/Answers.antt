@@ -29,11 +29,12 @@ use Rattle.element.specs.declared.ElementRead.{ElementRead}
 use Rattle.element.specs.declared.ElementRead.the-variants as part
 use Rattle.element.specs.declared.Walk.{Walk}
 use Rattle.element.specs.declared.Walk.the-variants as walk
+use Rattle.handing.specs.Paper as handing
+use Rattle.handing.specs.declared.HandedOut.{HandedOut}
+use Rattle.handing.specs.declared.HandedOut.the-variants as handed
 use Rattle.receiver.specs.Paper as receiver
 use Rattle.receiver.specs.declared.Receipt.{Receipt}
 use Rattle.receiver.specs.declared.Receipt.the-variants as receipt
-use Rattle.receiver.specs.declared.handing.HandedOut.{HandedOut}
-use Rattle.receiver.specs.declared.handing.HandedOut.the-variants as handed
 use Rattle.train.specs.Train as train
 use Rattle.train.specs.Paper as trains
 use Rattle.train.specs.declared.HeadRead.{HeadRead}
@@ -164,10 +165,10 @@ receipt-one = tells-apart receiver.paper (back receipt.Received (λ r at. receip
     undone (receipt.Received r) = refl
     undone (receipt.Refused r) = ap receipt.Refused (number-names r)
 
-pub handed-one : (a b : HandedOut) → receiver.paperHanded a ≡ receiver.paperHanded b → a ≡ b
-handed-one = tells-apart receiver.paperHanded (back handed.Bytes (λ r at. handed.Refused r)) undone
+pub handed-one : (a b : HandedOut) → handing.paperHanded a ≡ handing.paperHanded b → a ≡ b
+handed-one = tells-apart handing.paperHanded (back handed.Bytes (λ r at. handed.Refused r)) undone
   where
-    undone : (r : HandedOut) → back handed.Bytes (λ q at. handed.Refused q) (receiver.paperHanded r) ≡ r
+    undone : (r : HandedOut) → back handed.Bytes (λ q at. handed.Refused q) (handing.paperHanded r) ≡ r
     undone (handed.Bytes n) = refl
     undone (handed.Refused r) = ap handed.Refused (number-names r)
 

@@ -2,3 +2,4 @@
 pub mod Law
 pub mod Answers
 pub mod Calls
+pub mod Exports

@@ -5,8 +5,8 @@ use native.Mathlib.Nat.{pow-suc}
 use native.Mathlib.Numerals.{add-one, add-two, add-three}
 use native.Mathlib.Omega.{arith}
 use mathlib.Core.List.{List, [], _∷_, _++_}
-use lib.ListN.{length, getD, take, set, length-append}
-use lib.Seq.{sets-eq}
+use lib.ListN.{length, getD, take, drop, set, length-append, length-drop}
+use lib.Seq.{getD-drop, drop-drop, sets-eq}
 use Rattle.base.specs.Lists.{replaced}
 use Rattle.train.specs.Bytes.{bigEndian, valueAfter, valueOf}
 use Rattle.train.specs.Train.{lengthWidth, headBytes}
@@ -34,6 +34,25 @@ unfolding valueAfter
 two-value [] h = absurd (omega arith)
 two-value (a ∷ []) h = absurd (omega arith)
 two-value (a ∷ b ∷ l) h = omega arith
+
+pub two-at : (l : List ℕ) (i : ℕ) → i + 2 ≤ length l → getD l i 0 * 256 + getD l (i + 1) 0 ≡ valueOf (take 2 (drop i l))
+two-at l i h =
+    let a : getD (drop i l) 0 0 ≡ getD l i 0 = getD-drop i l 0 0 ∙ ap (λ (j : ℕ). getD l j 0) (omega arith) in
+    let b : getD (drop i l) 1 0 ≡ getD l (i + 1) 0 = getD-drop i l 1 0 in
+    omega (arith, a, b, two-value (drop i l) (omega (arith, length-drop i l)))
+
+-- two numbers of two bytes, one after the other
+four-value : (l : List ℕ) → 4 ≤ length l → valueOf (take 2 l) * 65536 + valueOf (take 2 (drop 2 l)) ≡ valueOf (take 4 l)
+unfolding valueAfter
+four-value [] h = absurd (omega arith)
+four-value (a ∷ []) h = absurd (omega arith)
+four-value (a ∷ b ∷ []) h = absurd (omega arith)
+four-value (a ∷ b ∷ c ∷ []) h = absurd (omega arith)
+four-value (a ∷ b ∷ c ∷ d ∷ l) h = omega arith
+
+pub four-at : (l : List ℕ) (i : ℕ) → i + 4 ≤ length l
+    → valueOf (take 2 (drop i l)) * 65536 + valueOf (take 2 (drop (i + 2) l)) ≡ valueOf (take 4 (drop i l))
+four-at l i h = rw (← drop-drop 2 i l) (four-value (drop i l) (omega (arith, length-drop i l)))
 
 pub big-two : (v : ℕ) → v < 65536 → v / 256 ∷ v % 256 ∷ [] ≡ bigEndian 2 v
 unfolding bigEndian

@@ -1,9 +1,10 @@
 // The train file: version byte, then records of length, number and payload (T1 to T3): head and records read, a record's head written.
 use base::Refusal;
 ghost use mathlib.Core.Path.{_≡_};
-ghost use Prim.Native.Nat.{_+_, _*_, _^_, _≤_, _<_};
-ghost use lib.ListN.{length, drop};
+ghost use Prim.Native.Nat.{_+_, _^_, _≤_, _<_};
+ghost use lib.ListN.{length, take, drop};
 ghost use Rattle.base.specs.Lists.{replaced};
+ghost use Rattle.train.specs.Bytes.{valueOf};
 ghost use Rattle.train.specs.Train.{lengthWidth, numberWidth, leastStated, headBytes, headOf, lengthOf, bodyOf, frontOf};
 ghost use Rattle.train.specs.Paper.{paperHead, paperLength, paperRecord};
 
@@ -65,11 +66,24 @@ pub fn read_head(bytes: &[u8]) -> HeadRead
     }
 }
 
-// A number of two bytes, the higher first.
-fn two_bytes(high: u8, low: u8) -> u16
-    ensures { λ r. ⌜ r ≡ high * 256 + low ⌝ }
+// The number that the two bytes at `at` form, the higher first.
+pub fn two_bytes(bytes: &[u8], at: usize) -> u16
+    requires { ⌜ at + 2 ≤ length (now bytes) ⌝ }
+    ensures { λ r. ⌜ r ≡ valueOf (take 2 (drop at (now (bytes .entry)))) ⌝ }
 {
-    (high as u16) * 256 + (low as u16)
+    let high = bytes[at] as u16;
+    let low = bytes[at + 1] as u16;
+    high * 256 + low
+}
+
+// The number that the four bytes at `at` form, the highest first.
+pub fn four_bytes(bytes: &[u8], at: usize) -> usize
+    requires { ⌜ at + 4 ≤ length (now bytes) ⌝ }
+    ensures { λ r. ⌜ r ≡ valueOf (take 4 (drop at (now (bytes .entry)))) ⌝ }
+{
+    let high = two_bytes(bytes, at) as usize;
+    let low = two_bytes(bytes, at + 2) as usize;
+    high * 65536 + low
 }
 
 // The length field at the front of some bytes, or what there is of it.
@@ -82,7 +96,7 @@ pub fn read_length(bytes: &[u8]) -> LengthRead
     if bytes.len() < LENGTH_WIDTH {
         return LengthRead::Refused(Refusal::TrainCut);
     }
-    let stated = two_bytes(bytes[0], bytes[1]) as usize;
+    let stated = two_bytes(bytes, 0) as usize;
     if stated < LEAST_STATED {
         return LengthRead::Refused(Refusal::RecordTooShort);
     }
@@ -98,7 +112,7 @@ pub fn read_body(bytes: &[u8], stated: usize) -> RecordRead
         return RecordRead::Refused(Refusal::TrainCut);
     }
     RecordRead::Found(RecordHead {
-        number: two_bytes(bytes[0], bytes[1]),
+        number: two_bytes(bytes, 0),
         start: NUMBER_WIDTH,
         length: stated - NUMBER_WIDTH,
     })

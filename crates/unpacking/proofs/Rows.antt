@@ -8,8 +8,8 @@ use Rattle.obu.specs.Wire.{wholeOf, wire}
 use Rattle.element.specs.Elements.{elementAt, untilEnd, exactly, counting, elementsOf, payloadElements}
 use Rattle.train.specs.Bytes.{valueAfter}
 use Rattle.train.specs.Train.{lengthOf, bodyOf, recordsFrom, headOf}
+use Rattle.handing.specs.Handing.{wires}
 use Rattle.receiver.specs.Joining.{isAhead, isInStep, joined, finished, left, handed, keptOpen, next, out}
-use Rattle.receiver.specs.Handing.{wires}
 use Rattle.receiver.specs.Call.{taken}
 use Rattle.unpacking.specs.Unpack.{unpackedFrom, unpackOf}
 

@@ -3,20 +3,18 @@ use mathlib.Core.Path.{_≡_, refl, sym, ap, ap₂, _∙_}
 use Prim.Native.Nat.{ℕ, zero, suc, _+_, _-_, _≤_, _<_}
 use native.Mathlib.Omega.{arith}
 use mathlib.Core.List.{List, [], _∷_, _++_}
-use mathlib.Core.Bool.{Bool, true, false}
-use lib.ListN.{length, take, drop, length-drop, replicate, length-replicate}
+use lib.ListN.{length, take, drop, length-drop}
 use lib.Dec.{ltb}
 use Rattle.base.proofs.Tests.{by-cond}
 use lib.Seq.{drop-nil, take-append-seam}
 use Rattle.base.specs.Answers.{Answer, given, refused}
 use Rattle.base.specs.Lists.{front}
 use Rattle.train.specs.Train.{lengthWidth, Packet, Train, Length, over, stated, bad, lengthOf, Front, ends, holds, stops, bodyOf, packetIn, recordsFrom, recordsOf, headOf, trainBy, standing}
-use Rattle.train.specs.declared.RecordHead.{RecordHead}
 use Rattle.train.proofs.Stepping.{stream-over, stream-bad, stream-cut, stream-next}
+use Rattle.handing.proofs.Lists.{front-length}
 use Rattle.receiver.specs.Joining.{Held, fresh}
 use Rattle.receiver.specs.Call.{Taken, taken, stateOf, outcome, answered, storeBy, outputBy}
 use Rattle.receiver.specs.declared.State.{State}
-use Rattle.receiver.proofs.Lists.{front-length}
 use Rattle.receiver.proofs.Laws.{taken-fits, Holding, holding-fresh, outcome-holding, holding-next}
 use Rattle.unpacking.specs.Unpack.{outputBytes, fragmentStore, turn, heldAfter, writtenFor, unpackedFrom, unpackOf, stepBy, stepAt, storeAt, outAt, stepOf, storeOf, outOf}
 use Rattle.unpacking.specs.Run.{goOn, runBy, runFrom, runHeaded, runOf}

@@ -1,7 +1,6 @@
 -- `unpack` as a function on bytes: from a train to the OBUs that it writes (G5, G6, L14, L15).
-use Prim.Native.Nat.{ℕ, zero, suc, _-_}
+use Prim.Native.Nat.{ℕ}
 use mathlib.Core.List.{List, [], _∷_, _++_}
-use lib.ListN.{take, drop}
 use Rattle.base.specs.Answers.{Answer, given, refused}
 use Rattle.train.specs.Train.{lengthWidth, Packet, Length, over, stated, bad, Front, ends, holds, stops, bodyOf, packetIn, trainIn, standing}
 use Rattle.receiver.specs.Joining.{Held, fresh}

@@ -65,12 +65,6 @@ fn empty_line() -> Line {
     }
 }
 
-fn smaller(a: usize, b: usize) -> usize
-    ensures { λ r. ⌜ (r ≤ a) × (r ≤ b) ⌝ }
-{
-    if a < b { a } else { b }
-}
-
 fn larger(a: usize, b: usize) -> usize {
     if a < b { b } else { a }
 }
@@ -141,7 +135,7 @@ fn print_at(list: &[u32], k: usize) {
 
 // The first records of a list. OBU records and plan records have as many numbers.
 fn print_records(list: &[u32], records: usize) {
-    let end = smaller(records, LIST_STORE) * obu::OBU_NUMBERS;
+    let end = base::smaller(records, LIST_STORE) * obu::OBU_NUMBERS;
     let mut k: usize = 0;
     while k < end {
         print_at(list, k);
@@ -168,7 +162,7 @@ fn low_letter(b: u8) -> u8 {
 fn put_digits(bytes: &[u8], text: &mut [u8]) -> usize
     ensures { λ r. ⌜ Counts r (now (text .exit)) ⌝ }
 {
-    let n = smaller(bytes.len(), text.len() / 2);
+    let n = base::smaller(bytes.len(), text.len() / 2);
     let mut i: usize = 0;
     while i < n {
         put_byte(text, i * 2, high_letter(bytes[i]));
@@ -192,7 +186,7 @@ fn print_bytes(bytes: &[u8], from: usize, to: usize)
     let mut at = from;
     let mut turns = (to - from) / CHUNK + 1;
     while turns > 0 {
-        let end = at + smaller(to - at, CHUNK);
+        let end = at + base::smaller(to - at, CHUNK);
         print_chunk(&bytes[at..end]);
         at = end;
         turns -= 1;
@@ -236,7 +230,7 @@ fn one_more(n: u32) -> usize {
 
 // How many bytes payload k has, by its record.
 fn payload_size(plan: &[u32], k: usize) -> usize {
-    let at = smaller(k, LIST_STORE) * packetizer::PLAN_NUMBERS + 4;
+    let at = base::smaller(k, LIST_STORE) * packetizer::PLAN_NUMBERS + 4;
     if at < plan.len() {
         one_more(plan[at])
     } else {
@@ -249,7 +243,7 @@ fn print_payloads(plan: &[u32], output: &[u8], packets: usize) {
     let mut at: usize = 0;
     let mut k: usize = 0;
     while k < packets {
-        let end = at + smaller(payload_size(plan, k), output.len() - at);
+        let end = at + base::smaller(payload_size(plan, k), output.len() - at);
         print_between(k);
         print_bytes(output, at, end);
         at = end;
@@ -290,10 +284,10 @@ fn answer(mtu: usize, unit: &[u8], obus: &mut [u32], plan: &mut [u32], output: &
 
 fn end_of_line(line: Line, unit: &mut [u8], obus: &mut [u32], plan: &mut [u32], output: &mut [u8]) {
     repeat_byte(unit, line.length, line.repeated, line.last);
-    let length = smaller(larger(line.length, line.repeated), unit.len());
-    let listed = smaller(line.obus, obus.len());
-    let planned = smaller(line.plan, plan.len());
-    let bytes = smaller(line.output, output.len());
+    let length = base::smaller(larger(line.length, line.repeated), unit.len());
+    let listed = base::smaller(line.obus, obus.len());
+    let planned = base::smaller(line.plan, plan.len());
+    let bytes = base::smaller(line.output, output.len());
     answer(
         line.mtu,
         &unit[..length],
@@ -337,7 +331,7 @@ fn unit_text(line: Line, b: u8, unit: &mut [u8]) -> Line {
         next.high = digit(b);
         return next;
     }
-    let at = smaller(line.length, UNIT_STORE);
+    let at = base::smaller(line.length, UNIT_STORE);
     let byte = line.high % 16 * 16 + digit(b);
     put_byte(unit, at, byte);
     next.half = false;
@@ -364,7 +358,7 @@ fn step(
     }
     if b == 32 {
         let mut next = line;
-        next.word = smaller(line.word, OUTPUT) + 1;
+        next.word = base::smaller(line.word, OUTPUT) + 1;
         return next;
     }
     if line.word <= OUTPUT {

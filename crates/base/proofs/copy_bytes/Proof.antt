@@ -1,15 +1,13 @@
-use mathlib.Core.Path.{_≡_, refl, sym, ap, _∙_}
+use mathlib.Core.Path.{_≡_, refl, ap, _∙_}
 use Prim.Native.Nat.{ℕ, _+_, _-_, _≤_}
 use mathlib.Core.List.{List}
 use native.Mathlib.Omega.{arith}
 use borrow.Author.Needs.{needs}
-use lib.ListN.{length, set, getD, take, drop, length-set}
+use lib.ListN.{length, take, drop}
 use lib.Seq.{sets}
-use Rattle.base.proofs.Lists.{copy-more}
+use Rattle.base.proofs.Lists.{copy-on}
 use Rattle.base.proofs.copy_bytes.Statement.{statement}
 use Rattle.base.proofs.copy_bytes.Tie as tie
-use Rattle.base.proofs.copy_bytes.Reads as reads
-use Rattle.base.proofs.copy_bytes.Lts as lts
 
 abbrev Inv-loop : tie.InvT-loop
 Inv-loop from start n to₀ at i₀ to i = (i ≤ n) × (length to ≡ length to₀) × (to ≡ sets to₀ at (take i (drop start from)))
@@ -20,17 +18,20 @@ abbrev μ-loop : tie.MeasureT-loop
 loop-holds : tie.Need-loop-holds Inv-loop μ-loop
 loop-holds c = search needs
 
-add-to : tie.Need-add-to Inv-loop μ-loop
-add-to c = search needs
+sub-smaller : tie.Need-sub-smaller Inv-loop μ-loop
+sub-smaller c = search needs
 
-shared-slice-read-to : tie.Need-shared-slice-read-to Inv-loop μ-loop
-shared-slice-read-to c = search needs
+smaller-requires : tie.Need-smaller-requires Inv-loop μ-loop
+smaller-requires c κs = search needs
 
-add-to-2 : tie.Need-add-to-2 Inv-loop μ-loop
-add-to-2 c = search needs
+add-copy-block : tie.Need-add-copy-block Inv-loop μ-loop
+add-copy-block c = search needs
 
-slice-write-to : tie.Need-slice-write-to Inv-loop μ-loop
-slice-write-to c = search needs
+add-copy-block-2 : tie.Need-add-copy-block-2 Inv-loop μ-loop
+add-copy-block-2 c = search needs
+
+copy-block-requires : tie.Need-copy-block-requires Inv-loop μ-loop
+copy-block-requires c κs = search needs
 
 add-i : tie.Need-add-i Inv-loop μ-loop
 add-i c = search needs
@@ -40,12 +41,14 @@ loop-less c = search needs
 
 loop-again : tie.Need-loop-again Inv-loop μ-loop
 loop-again c =
-    let a = c .before .before .before .args in
-    let i = c .before .before .loop .i in (
-      omega arith,
-      simp length-set (c .before .before .loop .inv .1),
-      ap (λ (l : List ℕ). set l (a .at + i) (getD (a .from .now) (a .start + i) 0)) (c .before .before .loop .inv .2)
-          ∙ copy-more (a .to .now) (a .from .now) (a .at) (a .start) i 0 (omega arith),
+    let a = c .before .before .before .before .before .before .before .before .before .args in
+    let i = c .before .before .before .before .before .before .loop .i in
+    let m = c .before .before .before .before .smaller .result in (
+      search needs,
+      search needs,
+      c .before .before .copy-block .ensures
+          ∙ ap (λ (l : List ℕ). sets l (a .at + i) (take m (drop (a .start + i) (a .from .now)))) (c .before .before .before .before .before .before .loop .inv .2)
+          ∙ copy-on (a .to .now) (a .from .now) (a .at) (a .start) i m (omega arith),
     )
 
 add-result : tie.Need-add-result Inv-loop μ-loop
@@ -56,7 +59,7 @@ same-length c = search needs
 
 returns : tie.Need-returns Inv-loop μ-loop
 returns c =
-    let e : c .before .loop .i ≡ c .before .before .args .n = omega arith in
+    let e : c .before .loop .i ≡ c .before .before .before .before .args .n = omega arith in
     (refl, rw (← e) (c .before .loop .inv .2))
 
 pub copy-bytes-spec : {M : Type 1} → statement M
@@ -66,10 +69,11 @@ copy-bytes-spec =
     Inv-loop
     μ-loop
     loop-holds
-    add-to
-    shared-slice-read-to
-    add-to-2
-    slice-write-to
+    sub-smaller
+    smaller-requires
+    add-copy-block
+    add-copy-block-2
+    copy-block-requires
     add-i
     loop-less
     loop-again

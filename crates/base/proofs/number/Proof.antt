@@ -3,8 +3,6 @@ use borrow.Author.Needs.{needs}
 use Rattle.base.specs.Refusals.{numberOf}
 use Rattle.base.proofs.number.Statement.{statement}
 use Rattle.base.proofs.number.Tie as tie
-use Rattle.base.proofs.number.Reads as reads
-use Rattle.base.proofs.number.Lts as lts
 
 enum-told : tie.Need-enum-told
 enum-told c = search needs

@@ -4,8 +4,6 @@ use lib.ListN.{length-set}
 use borrow.Author.Needs.{needs}
 use Rattle.base.proofs.put_five.Statement.{statement}
 use Rattle.base.proofs.put_five.Tie as tie
-use Rattle.base.proofs.put_five.Reads as reads
-use Rattle.base.proofs.put_five.Lts as lts
 
 mul-list : tie.Need-mul-list
 mul-list c = search needs

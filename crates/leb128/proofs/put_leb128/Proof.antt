@@ -1,8 +1,5 @@
-use mathlib.Core.Path.{_≡_, ap, sym, _∙_}
-use Prim.Native.Nat.{ℕ, _<_, _+_, _%_}
 use native.Mathlib.Omega.{arith}
-use lib.ListN.{set, length-set}
-use borrow.Author.Needs.{needs}
+use lib.ListN.{length-set}
 use Rattle.leb128.proofs.Writing.{Writing, writing-first, writing-room, writing-next, writing-last, byte7}
 use Rattle.leb128.proofs.put_leb128.Statement.{statement}
 use Rattle.leb128.proofs.put_leb128.Tie as tie

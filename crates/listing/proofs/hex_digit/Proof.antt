@@ -2,22 +2,16 @@ use borrow.Author.Tests.{lt-ltb, le-ltb}
 use borrow.Author.Needs.{needs}
 use Rattle.listing.proofs.hex_digit.Statement.{statement}
 use Rattle.listing.proofs.hex_digit.Tie as tie
-use Rattle.listing.proofs.hex_digit.Reads as reads
-use Rattle.listing.proofs.hex_digit.Lts as lts
 
--- src/lib.rt:145:17
 add-result : tie.Need-add-result
 add-result c = search needs
 
--- src/lib.rt:145:33
 add-result-2 : tie.Need-add-result-2
 add-result-2 c = search needs
 
--- src/lib.rt:141:1
 returns : tie.Need-returns
 returns c = rw (lt-ltb (c .before .args .d) 10 (c .if1 .taken))
 
--- src/lib.rt:141:1
 returns-2 : tie.Need-returns-2
 returns-2 c = rw (le-ltb (c .before .args .d) 10 (c .if1 .left))
 

@@ -8,88 +8,61 @@ use Rattle.listing.proofs.Lines.{lent-headed}
 use borrow.Author.Needs.{needs}
 use Rattle.listing.proofs.print_plan.Statement.{statement}
 use Rattle.listing.proofs.print_plan.Tie as tie
-use Rattle.listing.proofs.print_plan.Reads as reads
-use Rattle.listing.proofs.print_plan.Lts as lts
-use Rattle.base.proofs.number.Reads as number-reads
-use Rattle.io.proofs.write_all.Reads as write-all-reads
-use Rattle.listing.proofs.print_column.Reads as print-column-reads
-use Rattle.listing.proofs.print_count.Reads as print-count-reads
-use Rattle.listing.proofs.print_rows.Reads as print-rows-reads
-use Rattle.packetizer.proofs.plan_unit.Reads as plan-unit-reads
 
--- src/lib.rt:189:11
 plan-unit-requires : tie.Need-plan-unit-requires
 plan-unit-requires c κs = search needs
 
--- src/lib.rt:190:31
 enum-known-refusal : tie.Need-enum-known-refusal
 enum-known-refusal c = search needs
 
--- src/lib.rt:191:42
 slice-aggregate-write-all : tie.Need-slice-aggregate-write-all
 slice-aggregate-write-all c = search needs
 
--- src/lib.rt:191:13
 write-all-requires : tie.Need-write-all-requires
 write-all-requires c κs = search needs
 
--- src/lib.rt:192:26
 number-requires : tie.Need-number-requires
 number-requires c κs = search needs
 
--- src/lib.rt:192:13
 print-column-requires : tie.Need-print-column-requires
 print-column-requires c κs = search needs
 
--- src/lib.rt:193:13
 print-count-requires : tie.Need-print-count-requires
 print-count-requires c κs = search needs
 
--- src/lib.rt:194:42
 slice-aggregate-write-all-2 : tie.Need-slice-aggregate-write-all-2
 slice-aggregate-write-all-2 c = search needs
 
--- src/lib.rt:194:13
 write-all-requires-2 : tie.Need-write-all-requires-2
 write-all-requires-2 c κs = search needs
 
--- src/lib.rt:196:29
 enum-known-planned : tie.Need-enum-known-planned
 enum-known-planned c = search needs
 
--- src/lib.rt:197:42
 slice-aggregate-write-all-3 : tie.Need-slice-aggregate-write-all-3
 slice-aggregate-write-all-3 c = search needs
 
--- src/lib.rt:197:13
 write-all-requires-3 : tie.Need-write-all-requires-3
 write-all-requires-3 c κs = search needs
 
--- src/lib.rt:198:13
 print-count-requires-2 : tie.Need-print-count-requires-2
 print-count-requires-2 c κs = search needs
 
--- src/lib.rt:199:42
 slice-aggregate-write-all-4 : tie.Need-slice-aggregate-write-all-4
 slice-aggregate-write-all-4 c = search needs
 
--- src/lib.rt:199:13
 write-all-requires-4 : tie.Need-write-all-requires-4
 write-all-requires-4 c κs = search needs
 
--- src/lib.rt:200:13
 print-count-requires-3 : tie.Need-print-count-requires-3
 print-count-requires-3 c κs = search needs
 
--- src/lib.rt:201:42
 slice-aggregate-write-all-5 : tie.Need-slice-aggregate-write-all-5
 slice-aggregate-write-all-5 c = search needs
 
--- src/lib.rt:201:13
 write-all-requires-5 : tie.Need-write-all-requires-5
 write-all-requires-5 c κs = search needs
 
--- src/lib.rt:202:13
 print-rows-requires : tie.Need-print-rows-requires
 print-rows-requires c κs =
     let a = c .before .before .before .before .before .before .before .before .before .before .before .before .before .before .before .before .before .before .before .before .before .before .before .args in
@@ -99,27 +72,21 @@ print-rows-requires c κs =
     let room = accepted _ _ _ _ p e .plan-room in
     (omega (arith, u .kept .1 .1 .1 .0), λ k h. rw (u .ensures .1, u .ensures .2) (lent-headed _ _ _ _ p e k h))
 
--- src/lib.rt:188:1
 same-length : tie.Need-same-length
 same-length c = search needs
 
--- src/lib.rt:188:1
 same-length-2 : tie.Need-same-length-2
 same-length-2 c = search needs
 
--- src/lib.rt:188:1
 returns : tie.Need-returns
 returns c = search needs
 
--- src/lib.rt:188:1
 same-length-3 : tie.Need-same-length-3
 same-length-3 c = search needs
 
--- src/lib.rt:188:1
 same-length-4 : tie.Need-same-length-4
 same-length-4 c = search needs
 
--- src/lib.rt:188:1
 returns-2 : tie.Need-returns-2
 returns-2 c = search needs
 

@@ -7,32 +7,22 @@ use lib.Seq.{length-take-le}
 use borrow.Author.Needs.{needs}
 use Rattle.listing.proofs.read_front.Statement.{statement}
 use Rattle.listing.proofs.read_front.Tie as tie
-use Rattle.listing.proofs.read_front.Reads as reads
-use Rattle.listing.proofs.read_front.Lts as lts
-use Rattle.io.proofs.read_full.Reads as read-full-reads
-use Rattle.listing.proofs.smaller.Reads as smaller-reads
 
--- src/lib.rt:219:9
 smaller-requires : tie.Need-smaller-requires
 smaller-requires c κs = search needs
 
--- src/lib.rt:220:33
 slice-relend-prefix-read-full : tie.Need-slice-relend-prefix-read-full
 slice-relend-prefix-read-full c = search needs
 
--- src/lib.rt:220:33
 slice-aggregate-read-full : tie.Need-slice-aggregate-read-full
 slice-aggregate-read-full c = sym (length-take-le (c .before .smaller .result) (c .before .before .before .args .store .now) (omega arith))
 
--- src/lib.rt:220:5
 read-full-requires : tie.Need-read-full-requires
 read-full-requires c κs = search needs
 
--- src/lib.rt:216:1
 same-length : tie.Need-same-length
 same-length c = search needs
 
--- src/lib.rt:216:1
 returns : tie.Need-returns
 returns c =
     let r = c .before .before .read-full .result in

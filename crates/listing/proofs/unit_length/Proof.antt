@@ -6,29 +6,21 @@ use Rattle.listing.proofs.Inputs.{head-fits}
 use borrow.Author.Needs.{needs}
 use Rattle.listing.proofs.unit_length.Statement.{statement}
 use Rattle.listing.proofs.unit_length.Tie as tie
-use Rattle.listing.proofs.unit_length.Reads as reads
-use Rattle.listing.proofs.unit_length.Lts as lts
-use Rattle.listing.proofs.read_head.Reads as read-head-reads
 
--- src/lib.rt:85:11
 read-head-requires : tie.Need-read-head-requires
 read-head-requires c κs = search needs
 
--- src/lib.rt:86:26
 enum-told : tie.Need-enum-told
 enum-told c = search needs
 
--- src/lib.rt:87:24
 enum-known-stated : tie.Need-enum-known-stated
 enum-known-stated c = search needs
 
--- src/lib.rt:82:1
 returns : tie.Need-returns
 returns c =
     let e : bad ≡ headOf (c .before .before .before .before .args .head .now) = sym (ap paperHead (c .enum-told .given .1)) ∙ c .before .before .read-head .ensures in
     (ap lengthBy e, omega arith)
 
--- src/lib.rt:82:1
 returns-2 : tie.Need-returns-2
 returns-2 c =
     let e : states (c .before .stated .given .0 .0) ≡ headOf (c .before .before .before .before .before .args .head .now) = sym (ap paperHead (c .before .stated .given .1)) ∙ c .before .before .before .read-head .ensures in

@@ -5,9 +5,6 @@ use Rattle.obu.specs.Header.{extensionBit}
 use borrow.Author.Needs.{needs}
 use Rattle.obu.proofs.header_size.Statement.{statement}
 use Rattle.obu.proofs.header_size.Tie as tie
-use Rattle.obu.proofs.header_size.Reads as reads
-use Rattle.obu.proofs.header_size.Lts as lts
-use Rattle.obu.proofs.obu_has_extension.Reads as obu-has-extension-reads
 
 obu-has-extension-requires : tie.Need-obu-has-extension-requires
 obu-has-extension-requires c κs = search needs

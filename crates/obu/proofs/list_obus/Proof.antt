@@ -1,5 +1,5 @@
 use mathlib.Core.Path.{_≡_, sym, ap, _∙_}
-use Prim.Native.Nat.{ℕ, _+_, _-_, _≤_}
+use Prim.Native.Nat.{_+_, _-_, _≤_}
 use native.Mathlib.Omega.{arith}
 use lib.ListN.{length, take, drop, length-drop}
 use borrow.Author.Needs.{needs}
@@ -10,14 +10,6 @@ use Rattle.obu.specs.Paper.{paperHead, paperRead}
 use Rattle.obu.proofs.Scans.{Passed, passed-first, spans, passed-drop, passed-keep, passed-full, passed-stop, passed-end}
 use Rattle.obu.proofs.list_obus.Statement.{statement}
 use Rattle.obu.proofs.list_obus.Tie as tie
-use Rattle.obu.proofs.list_obus.Reads as reads
-use Rattle.obu.proofs.list_obus.Lts as lts
-use Rattle.obu.proofs.obu_type.Reads as obu-type-reads
-use Rattle.obu.proofs.put_obu.Reads as put-obu-reads
-use Rattle.obu.proofs.read_obu.Reads as read-obu-reads
-use Rattle.obu.proofs.record_at.Reads as record-at-reads
-use Rattle.obu.proofs.should_ignore_obu_type.Reads as should-ignore-obu-type-reads
-use Rattle.obu.proofs.span.Reads as span-reads
 
 abbrev Inv-loop : tie.InvT-loop
 Inv-loop unit space obus₀ store at₀ n₀ obus at n = Passed unit space obus₀ store obus at n

@@ -1,8 +1,6 @@
 use Rattle.base.proofs.Bits.{bit-test}
 use Rattle.obu.proofs.obu_has_extension.Statement.{statement}
 use Rattle.obu.proofs.obu_has_extension.Tie as tie
-use Rattle.obu.proofs.obu_has_extension.Reads as reads
-use Rattle.obu.proofs.obu_has_extension.Lts as lts
 
 returns : tie.Need-returns
 returns c = bit-test 2 (c .args .header)

@@ -1,8 +1,6 @@
 use Rattle.base.proofs.Bits.{bit-test}
 use Rattle.obu.proofs.obu_has_size.Statement.{statement}
 use Rattle.obu.proofs.obu_has_size.Tie as tie
-use Rattle.obu.proofs.obu_has_size.Reads as reads
-use Rattle.obu.proofs.obu_has_size.Lts as lts
 
 returns : tie.Need-returns
 returns c = bit-test 1 (c .args .header)

@@ -4,8 +4,6 @@ use native.Mathlib.Omega.{arith}
 use lib.Bits.{and-high}
 use Rattle.obu.proofs.obu_type.Statement.{statement}
 use Rattle.obu.proofs.obu_type.Tie as tie
-use Rattle.obu.proofs.obu_type.Reads as reads
-use Rattle.obu.proofs.obu_type.Lts as lts
 
 returns : tie.Need-returns
 returns c = ap (λ (x : ℕ). x / 8) (and-high (c .args .header) 4 3) ∙ omega arith

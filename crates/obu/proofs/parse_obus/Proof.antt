@@ -1,4 +1,4 @@
-use mathlib.Core.Path.{_≡_, sym, ap, _∙_}
+use mathlib.Core.Path.{sym, ap, _∙_}
 use mathlib.Core.List.{List}
 use Prim.Native.Nat.{ℕ, _/_}
 use lib.ListN.{length, take}
@@ -9,9 +9,6 @@ use Rattle.obu.proofs.Scans.{listed-large, stored-all, stored-none}
 use borrow.Author.Needs.{needs}
 use Rattle.obu.proofs.parse_obus.Statement.{statement}
 use Rattle.obu.proofs.parse_obus.Tie as tie
-use Rattle.obu.proofs.parse_obus.Reads as reads
-use Rattle.obu.proofs.parse_obus.Lts as lts
-use Rattle.obu.proofs.list_obus.Reads as list-obus-reads
 
 returns : tie.Need-returns
 returns c =

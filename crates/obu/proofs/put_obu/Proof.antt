@@ -1,11 +1,7 @@
-use mathlib.Core.Path.{sym, _∙_}
 use native.Mathlib.Omega.{arith}
 use borrow.Author.Needs.{needs}
 use Rattle.obu.proofs.put_obu.Statement.{statement}
 use Rattle.obu.proofs.put_obu.Tie as tie
-use Rattle.obu.proofs.put_obu.Reads as reads
-use Rattle.obu.proofs.put_obu.Lts as lts
-use Rattle.base.proofs.put_five.Reads as put-five-reads
 
 mul-at : tie.Need-mul-at
 mul-at c = let r = c .before .before .pre (c .if1 .taken) in omega arith

@@ -1,12 +1,12 @@
 use mathlib.Core.Path.{_≡_, sym, ap, _∙_}
-use Prim.Native.Nat.{ℕ, _-_, _≤_}
+use Prim.Native.Nat.{ℕ, _-_}
 use native.Mathlib.Omega.{arith}
 use mathlib.Core.List.{List}
 use mathlib.Core.Bool.{cond}
 use lib.ListN.{length, getD, take, drop, length-drop}
 use lib.Dec.{eqb}
 use Rattle.base.proofs.Lists.{part-from}
-use Rattle.leb128.specs.Field.{sized, sizeField}
+use Rattle.leb128.specs.Field.{sizeField}
 use Rattle.leb128.specs.Paper.{paper}
 use Rattle.leb128.proofs.Reading.{size-within}
 use Rattle.obu.specs.Header.{extensionBit}
@@ -15,12 +15,6 @@ use Rattle.obu.proofs.Fronts.{same-first, same-field, front-3, front-he
 use borrow.Author.Needs.{needs}
 use Rattle.obu.proofs.read_obu.Statement.{statement}
 use Rattle.obu.proofs.read_obu.Tie as tie
-use Rattle.obu.proofs.read_obu.Reads as reads
-use Rattle.obu.proofs.read_obu.Lts as lts
-use Rattle.leb128.proofs.read_leb128.Reads as read-leb128-reads
-use Rattle.obu.proofs.extension_byte.Reads as extension-byte-reads
-use Rattle.obu.proofs.header_size.Reads as header-size-reads
-use Rattle.obu.proofs.obu_has_size.Reads as obu-has-size-reads
 
 -- after the header bytes, for all bytes that begin so
 known :

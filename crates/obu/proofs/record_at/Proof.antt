@@ -1,14 +1,11 @@
-use mathlib.Core.Path.{_≡_, ap, ap₂, _∙_}
-use Prim.Native.Nat.{ℕ, _+_}
+use mathlib.Core.Path.{_≡_, ap₂}
+use Prim.Native.Nat.{_+_}
 use native.Mathlib.Omega.{arith}
 use Rattle.obu.specs.Header.{headerSize}
 use Rattle.obu.specs.declared.Obu.{Obu}
 use borrow.Author.Needs.{needs}
 use Rattle.obu.proofs.record_at.Statement.{statement}
 use Rattle.obu.proofs.record_at.Tie as tie
-use Rattle.obu.proofs.record_at.Reads as reads
-use Rattle.obu.proofs.record_at.Lts as lts
-use Rattle.obu.proofs.header_size.Reads as header-size-reads
 
 header-size-requires : tie.Need-header-size-requires
 header-size-requires c κs = search needs

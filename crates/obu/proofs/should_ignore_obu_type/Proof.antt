@@ -1,8 +1,6 @@
 use borrow.Author.Tests.{eq-eqb, ne-eqb}
 use Rattle.obu.proofs.should_ignore_obu_type.Statement.{statement}
 use Rattle.obu.proofs.should_ignore_obu_type.Tie as tie
-use Rattle.obu.proofs.should_ignore_obu_type.Reads as reads
-use Rattle.obu.proofs.should_ignore_obu_type.Lts as lts
 
 returns : tie.Need-returns
 returns c = simp (eq-eqb _ _ (c .if1 .taken))

@@ -3,18 +3,13 @@ use mathlib.Core.List.{List}
 use Prim.Native.Nat.{ℕ}
 use native.Mathlib.Omega.{arith}
 use lib.ListN.{length, take}
-use Rattle.obu.specs.Front.{headBytes, found, stopped, frontOf, spanOf}
-use Rattle.obu.specs.Wire.{wholeOf}
+use Rattle.obu.specs.Front.{headBytes, found, frontOf}
 use Rattle.obu.specs.Paper.{paperHead, paperRead}
 use Rattle.obu.proofs.Fronts.{some-all, Spans, front-spans}
 use Rattle.obu.proofs.Wires.{whole-found, whole-short, whole-stopped}
 use borrow.Author.Needs.{needs}
 use Rattle.obu.proofs.whole_obu.Statement.{statement}
 use Rattle.obu.proofs.whole_obu.Tie as tie
-use Rattle.obu.proofs.whole_obu.Reads as reads
-use Rattle.obu.proofs.whole_obu.Lts as lts
-use Rattle.obu.proofs.read_obu.Reads as read-obu-reads
-use Rattle.obu.proofs.span.Reads as span-reads
 
 -- what was found at the front of all bytes that begin so
 known :

@@ -2,8 +2,6 @@ use Rattle.base.proofs.Bits.{set-bit1}
 use native.Mathlib.Omega.{arith}
 use Rattle.obu.proofs.with_size_bit.Statement.{statement}
 use Rattle.obu.proofs.with_size_bit.Tie as tie
-use Rattle.obu.proofs.with_size_bit.Reads as reads
-use Rattle.obu.proofs.with_size_bit.Lts as lts
 
 returns : tie.Need-returns
 returns c = omega (arith, set-bit1 (c .args .header))

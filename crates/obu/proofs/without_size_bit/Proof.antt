@@ -1,8 +1,6 @@
 use Rattle.base.proofs.Bits.{clear-bit1}
 use Rattle.obu.proofs.without_size_bit.Statement.{statement}
 use Rattle.obu.proofs.without_size_bit.Tie as tie
-use Rattle.obu.proofs.without_size_bit.Reads as reads
-use Rattle.obu.proofs.without_size_bit.Lts as lts
 
 returns : tie.Need-returns
 returns c = clear-bit1 (c .args .header) (c .fits .header .fits)

@@ -3,9 +3,6 @@ use mathlib.Core.List.{flatMap}
 use borrow.Author.Needs.{needs}
 use Rattle.packetizer.proofs.put_record.Statement.{statement}
 use Rattle.packetizer.proofs.put_record.Tie as tie
-use Rattle.packetizer.proofs.put_record.Reads as reads
-use Rattle.packetizer.proofs.put_record.Lts as lts
-use Rattle.base.proofs.put_five.Reads as put-five-reads
 
 mul-at : tie.Need-mul-at
 mul-at c = let r = c .before .before .pre (c .if1 .taken) in omega arith

@@ -1,10 +1,10 @@
 use mathlib.Core.Path.{_≡_, sym, ap, ap₂, _∙_}
-use Prim.Native.Nat.{ℕ, _+_, _*_, _≤_}
+use Prim.Native.Nat.{ℕ, _*_, _≤_}
 use native.Mathlib.Omega.{arith}
 use mathlib.Core.List.{List}
 use lib.ListN.{length, take}
 use lib.Seq.{length-take-le}
-use Rattle.base.specs.Answers.{given, refused}
+use Rattle.base.specs.Answers.{given}
 use Rattle.packetizer.specs.Plan.{planNumbers, flatPlan}
 use Rattle.packetizer.specs.Call.{unitPlan}
 use Rattle.payloader.specs.Payload.{payloadsOf, joined}
@@ -16,10 +16,6 @@ use Rattle.packing.proofs.Units.{answer-is, Written, written-known, out
 use borrow.Author.Needs.{needs}
 use Rattle.packing.proofs.pack_unit.Statement.{statement}
 use Rattle.packing.proofs.pack_unit.Tie as tie
-use Rattle.packing.proofs.pack_unit.Reads as reads
-use Rattle.packing.proofs.pack_unit.Lts as lts
-use Rattle.packing.proofs.put_records.Reads as put-records-reads
-use Rattle.payloader.proofs.payload.Reads as payload-reads
 
 -- the bytes of the unit
 abbrev unit-of : tie.After-struct-known → List ℕ

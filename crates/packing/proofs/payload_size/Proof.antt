@@ -1,13 +1,9 @@
-use native.Mathlib.Omega.{arith}
-use mathlib.Core.Path.{_≡_, ap}
-use Prim.Native.Nat.{ℕ, _+_}
+use mathlib.Core.Path.{ap}
+use Prim.Native.Nat.{_+_}
 use Rattle.packetizer.specs.declared.PacketMetadata.{PacketMetadata}
 use borrow.Author.Needs.{needs}
 use Rattle.packing.proofs.payload_size.Statement.{statement}
 use Rattle.packing.proofs.payload_size.Tie as tie
-use Rattle.packing.proofs.payload_size.Reads as reads
-use Rattle.packing.proofs.payload_size.Lts as lts
-use Rattle.aggregation.proofs.packet_at.Reads as packet-at-reads
 
 packet-at-requires : tie.Need-packet-at-requires
 packet-at-requires c κs = search needs

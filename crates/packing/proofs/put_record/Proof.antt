@@ -1,5 +1,5 @@
-use mathlib.Core.Path.{_≡_, ap₂, _∙_}
-use Prim.Native.Nat.{ℕ, _+_}
+use mathlib.Core.Path.{ap₂, _∙_}
+use Prim.Native.Nat.{ℕ}
 use native.Mathlib.Omega.{arith}
 use mathlib.Core.List.{List}
 use lib.ListN.{take, drop, length-drop}
@@ -8,10 +8,6 @@ use Rattle.packing.proofs.Recording.{record-stored}
 use borrow.Author.Needs.{needs}
 use Rattle.packing.proofs.put_record.Statement.{statement}
 use Rattle.packing.proofs.put_record.Tie as tie
-use Rattle.packing.proofs.put_record.Reads as reads
-use Rattle.packing.proofs.put_record.Lts as lts
-use Rattle.base.proofs.copy_bytes.Reads as copy-bytes-reads
-use Rattle.train.proofs.put_record_head.Reads as put-record-head-reads
 
 cast-put-record-head : tie.Need-cast-put-record-head
 cast-put-record-head c = search needs

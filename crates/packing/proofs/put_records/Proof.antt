@@ -1,4 +1,4 @@
-use mathlib.Core.Path.{_≡_, ap, sym, _∙_}
+use mathlib.Core.Path.{_≡_, ap, _∙_}
 use Prim.Native.Nat.{ℕ, _+_, _-_, _*_, _≤_, _<_}
 use native.Mathlib.Omega.{arith}
 use borrow.Author.Needs.{needs}
@@ -14,11 +14,6 @@ use Rattle.payloader.proofs.Units.{packets-flat}
 use Rattle.packing.proofs.Recording.{Recording, recording-first, recording-room, recording-next, recording-last}
 use Rattle.packing.proofs.put_records.Statement.{statement}
 use Rattle.packing.proofs.put_records.Tie as tie
-use Rattle.packing.proofs.put_records.Reads as reads
-use Rattle.packing.proofs.put_records.Lts as lts
-use Rattle.packing.proofs.payload_size.Reads as payload-size-reads
-use Rattle.packing.proofs.put_record.Reads as put-record-reads
-use Rattle.std.proofs.num.wrapping_add_u16.Reads as wrapping-add-u16-reads
 
 abbrev Inv-loop : tie.InvT-loop
 Inv-loop mtu unit plan payloads number records₀ packets at₀ from₀ next₀ k₀ records at from next k = Recording mtu unit payloads records₀ number records k at from next

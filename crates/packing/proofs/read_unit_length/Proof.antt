@@ -2,9 +2,6 @@ use Rattle.packing.proofs.Reading.{length-none, length-cut, length-over
 use borrow.Author.Needs.{needs}
 use Rattle.packing.proofs.read_unit_length.Statement.{statement}
 use Rattle.packing.proofs.read_unit_length.Tie as tie
-use Rattle.packing.proofs.read_unit_length.Reads as reads
-use Rattle.packing.proofs.read_unit_length.Lts as lts
-use Rattle.packing.proofs.four_bytes.Reads as four-bytes-reads
 
 returns : tie.Need-returns
 returns c = length-none (c .before .before .args .bytes .now) (c .if1 .taken)

@@ -3,9 +3,6 @@ use Rattle.payloader.proofs.Parts.{head-first, head-second}
 use borrow.Author.Needs.{needs}
 use Rattle.payloader.proofs.head_byte.Statement.{statement}
 use Rattle.payloader.proofs.head_byte.Tie as tie
-use Rattle.payloader.proofs.head_byte.Reads as reads
-use Rattle.payloader.proofs.head_byte.Lts as lts
-use Rattle.obu.proofs.without_size_bit.Reads as without-size-bit-reads
 
 without-size-bit-requires : tie.Need-without-size-bit-requires
 without-size-bit-requires c κs = search needs

@@ -1,14 +1,11 @@
 use mathlib.Core.Path.{_≡_, sym, ap, _∙_}
 use Prim.Native.Nat.{ℕ}
 use native.Mathlib.Omega.{arith}
-use Rattle.base.specs.Answers.{given, refused}
+use Rattle.base.specs.Answers.{given}
 use Rattle.aggregation.specs.Paper.{paper}
 use borrow.Author.Needs.{needs}
 use Rattle.payloader.proofs.header_byte.Statement.{statement}
 use Rattle.payloader.proofs.header_byte.Tie as tie
-use Rattle.payloader.proofs.header_byte.Reads as reads
-use Rattle.payloader.proofs.header_byte.Lts as lts
-use Rattle.aggregation.proofs.get_aggregation_header.Reads as get-aggregation-header-reads
 
 get-aggregation-header-requires : tie.Need-get-aggregation-header-requires
 get-aggregation-header-requires c κs = search needs

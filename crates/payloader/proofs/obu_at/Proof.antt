@@ -1,14 +1,10 @@
-use mathlib.Core.Path.{_≡_, ap}
-use Prim.Native.Nat.{_*_, _+_, _<_}
+use mathlib.Core.Path.{ap}
 use native.Mathlib.Omega.{arith}
-use lib.ListN.{getD}
 use Rattle.obu.specs.declared.Obu.{Obu}
 use Rattle.aggregation.proofs.Flat.{obu-in}
 use borrow.Author.Needs.{needs}
 use Rattle.payloader.proofs.obu_at.Statement.{statement}
 use Rattle.payloader.proofs.obu_at.Tie as tie
-use Rattle.payloader.proofs.obu_at.Reads as reads
-use Rattle.payloader.proofs.obu_at.Lts as lts
 
 mul-at : tie.Need-mul-at
 mul-at c = search needs

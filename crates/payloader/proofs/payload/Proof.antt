@@ -1,16 +1,14 @@
-use mathlib.Core.Path.{_≡_, refl, sym, ap, ap₂, _∙_}
-use Prim.Native.Nat.{ℕ, _+_, _*_, _≤_, _<_}
+use mathlib.Core.Path.{_≡_, sym, ap, ap₂, _∙_}
+use Prim.Native.Nat.{ℕ, _*_}
 use native.Mathlib.Omega.{arith}
 use mathlib.Core.List.{List}
 use lib.ListN.{length, take}
-use lib.Seq.{sets, length-take-le}
-use Rattle.base.specs.Lists.{front}
+use lib.Seq.{length-take-le}
 use Rattle.obu.specs.Unit.{obuNumbers, obusOf, flat}
 use Rattle.packetizer.specs.Plan.{planNumbers, flatPlan}
 use Rattle.base.specs.Answers.{given}
 use Rattle.packetizer.specs.Call.{unitPlan, planAnswer}
 use Rattle.packetizer.specs.Paper.{paper}
-use Rattle.packetizer.specs.declared.PacketMetadata.{PacketMetadata}
 use Rattle.aggregation.specs.Flat.{packetsIn}
 use Rattle.payloader.specs.Payload.{plannedBytes, payloadsOf, joined}
 use Rattle.payloader.proofs.Units.{packets-flat}
@@ -19,11 +17,6 @@ use Rattle.payloader.proofs.Calls.{Accepted, accepted, obus-part, plan-
 use borrow.Author.Needs.{needs}
 use Rattle.payloader.proofs.payload.Statement.{statement}
 use Rattle.payloader.proofs.payload.Tie as tie
-use Rattle.payloader.proofs.payload.Reads as reads
-use Rattle.payloader.proofs.payload.Lts as lts
-use Rattle.packetizer.proofs.plan_unit.Reads as plan-unit-reads
-use Rattle.payloader.proofs.planned_bytes.Reads as planned-bytes-reads
-use Rattle.payloader.proofs.write_packets.Reads as write-packets-reads
 
 -- what is known where there is a plan
 known : (c : tie.After-known-told2) → Accepted (c .before .before .before .before .before .before .before .before .before .before .before .before .before .before .args .mtu) (c .before .before .before .before .before .before .before .before .before .before .before .before .before .before .args .unit .now) (c .before .before .before .before .before .before .before .before .before .before .before .before .before .before .args .obus .now) (c .before .before .before .before .before .before .before .before .before .before .before .before .before .before .args .plan .now) (c .before .planned .given .0 .0)

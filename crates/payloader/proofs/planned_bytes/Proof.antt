@@ -1,19 +1,15 @@
-use mathlib.Core.Path.{_≡_, refl, sym, ap, _∙_}
-use Prim.Native.Nat.{ℕ, _+_, _-_, _/_, _≤_}
+use mathlib.Core.Path.{_≡_}
+use Prim.Native.Nat.{_+_, _-_, _/_, _≤_}
 use native.Mathlib.Omega.{arith}
 use borrow.Author.Needs.{needs}
-use lib.ListN.{length, getD}
+use lib.ListN.{length}
 use Rattle.packetizer.specs.Plan.{planNumbers}
-use Rattle.packetizer.specs.declared.PacketMetadata.{PacketMetadata}
 use Rattle.aggregation.specs.Flat.{packetOf, packetsIn}
 use Rattle.aggregation.proofs.Flat.{records-length}
 use Rattle.payloader.specs.Payload.{plannedBytes}
 use Rattle.payloader.proofs.Totals.{Adding, adding-first, adding-next, adding-room, adding-last}
 use Rattle.payloader.proofs.planned_bytes.Statement.{statement}
 use Rattle.payloader.proofs.planned_bytes.Tie as tie
-use Rattle.payloader.proofs.planned_bytes.Reads as reads
-use Rattle.payloader.proofs.planned_bytes.Lts as lts
-use Rattle.aggregation.proofs.packet_at.Reads as packet-at-reads
 
 abbrev Inv-loop : tie.InvT-loop
 Inv-loop plan packets bytes₀ k₀ bytes k = Adding (packetsIn plan) bytes k

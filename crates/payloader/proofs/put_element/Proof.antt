@@ -1,14 +1,13 @@
-use mathlib.Core.Path.{_≡_, refl, sym, ap, ap₂, _∙_}
+use mathlib.Core.Path.{_≡_, sym, ap, _∙_}
 use Prim.Native.Nat.{ℕ, _+_, _*_, _≤_}
 use native.Mathlib.Omega.{arith}
-use mathlib.Core.List.{List, [], _++_}
+use mathlib.Core.List.{List, []}
 use mathlib.Core.Bool.{Bool, cond}
 use lib.ListN.{length, getD, take, drop}
-use lib.Seq.{sets, sets-eq}
-use Rattle.base.specs.Lists.{replaced}
+use lib.Seq.{sets-eq}
 use Rattle.base.proofs.Lists.{sets-append}
 use Rattle.leb128.specs.Field.{encode}
-use Rattle.obu.specs.Unit.{obuNumbers, obusOf, flat}
+use Rattle.obu.specs.Unit.{obuNumbers, obusOf}
 use Rattle.obu.specs.Wire.{sent}
 use Rattle.obu.specs.declared.Obu.{Obu}
 use Rattle.obu.proofs.Scans.{flat-length}
@@ -18,11 +17,6 @@ use Rattle.payloader.proofs.Units.{obus-flat, Lies, obu-lies}
 use borrow.Author.Needs.{needs}
 use Rattle.payloader.proofs.put_element.Statement.{statement}
 use Rattle.payloader.proofs.put_element.Tie as tie
-use Rattle.payloader.proofs.put_element.Reads as reads
-use Rattle.payloader.proofs.put_element.Lts as lts
-use Rattle.leb128.proofs.put_leb128.Reads as put-leb128-reads
-use Rattle.payloader.proofs.obu_at.Reads as obu-at-reads
-use Rattle.payloader.proofs.put_part.Reads as put-part-reads
 
 -- the records that are lent, and OBU i
 lent : (c : tie.After-slice-known) → obusIn (c .before .before .before .args .obus .now) ≡ obusOf (c .before .before .before .args .unit .now)

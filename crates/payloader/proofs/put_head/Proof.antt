@@ -1,4 +1,4 @@
-use mathlib.Core.Path.{_≡_, refl, sym, ap, _∙_}
+use mathlib.Core.Path.{_≡_, ap, _∙_}
 use Prim.Native.Nat.{ℕ, _+_, _-_, _≤_}
 use native.Mathlib.Omega.{arith}
 use mathlib.Core.List.{List}
@@ -9,9 +9,6 @@ use Rattle.base.proofs.Lists.{copy-more}
 use Rattle.payloader.proofs.Parts.{headOf, head-length}
 use Rattle.payloader.proofs.put_head.Statement.{statement}
 use Rattle.payloader.proofs.put_head.Tie as tie
-use Rattle.payloader.proofs.put_head.Reads as reads
-use Rattle.payloader.proofs.put_head.Lts as lts
-use Rattle.payloader.proofs.head_byte.Reads as head-byte-reads
 
 abbrev Inv-loop : tie.InvT-loop
 Inv-loop o from n out₀ at i₀ out i = (i ≤ n) × (length out ≡ length out₀) × (out ≡ sets out₀ at (take i (drop from (headOf o))))

@@ -1,7 +1,6 @@
-use mathlib.Core.Path.{_≡_, refl, sym, ap, ap₂, _∙_}
+use mathlib.Core.Path.{_≡_, sym, ap, _∙_}
 use Prim.Native.Nat.{ℕ, _+_, _-_, _≤_, min}
 use native.Mathlib.Omega.{arith}
-use mathlib.Core.List.{List}
 use lib.ListN.{length, take, drop, length-drop}
 use lib.Seq.{sets, length-take-le}
 use Rattle.base.proofs.Lists.{sets-append}
@@ -10,13 +9,6 @@ use Rattle.payloader.proofs.Parts.{headOf, head-length, inHead, part-sp
 use borrow.Author.Needs.{needs}
 use Rattle.payloader.proofs.put_part.Statement.{statement}
 use Rattle.payloader.proofs.put_part.Tie as tie
-use Rattle.payloader.proofs.put_part.Reads as reads
-use Rattle.payloader.proofs.put_part.Lts as lts
-use Rattle.base.proofs.copy_bytes.Reads as copy-bytes-reads
-use Rattle.obu.proofs.header_size.Reads as header-size-reads
-use Rattle.payloader.proofs.beyond.Reads as beyond-reads
-use Rattle.payloader.proofs.put_head.Reads as put-head-reads
-use Rattle.payloader.proofs.smaller.Reads as smaller-reads
 
 header-size-requires : tie.Need-header-size-requires
 header-size-requires c κs = search needs

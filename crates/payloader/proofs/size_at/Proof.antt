@@ -4,8 +4,6 @@ use native.Mathlib.Omega.{arith}
 use borrow.Author.Needs.{needs}
 use Rattle.payloader.proofs.size_at.Statement.{statement}
 use Rattle.payloader.proofs.size_at.Tie as tie
-use Rattle.payloader.proofs.size_at.Reads as reads
-use Rattle.payloader.proofs.size_at.Lts as lts
 
 mul-at : tie.Need-mul-at
 mul-at c = search needs

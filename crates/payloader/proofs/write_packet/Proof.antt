@@ -1,36 +1,25 @@
-use mathlib.Core.Path.{_≡_, refl, sym, ap, ap₂, subst, _∙_}
-use Prim.Native.Nat.{ℕ, _+_, _-_, _*_, _≤_, _<_}
+use mathlib.Core.Path.{_≡_, sym, ap, ap₂, _∙_}
+use Prim.Native.Nat.{ℕ, _+_, _*_, _<_}
 use native.Mathlib.Omega.{arith}
 use borrow.Author.Needs.{needs}
-use mathlib.Core.List.{List, []}
-use mathlib.Core.Bool.{Bool, cond}
-use lib.ListN.{length, getD, set, length-set}
-use lib.Seq.{sets}
+use mathlib.Core.List.{List}
+use lib.ListN.{length, getD, length-set}
 use lib.Dec.{ltb}
 use Rattle.base.specs.Answers.{given}
-use Rattle.leb128.specs.Field.{encode}
-use Rattle.obu.specs.Unit.{obuNumbers, obusOf, flat}
+use Rattle.obu.specs.Unit.{obuNumbers, obusOf}
 use Rattle.obu.specs.declared.Obu.{Obu}
 use Rattle.obu.proofs.Scans.{flat-length}
-use Rattle.packetizer.specs.Plan.{mostCounted, planNumbers, flatPlan}
+use Rattle.packetizer.specs.Plan.{mostCounted, planNumbers}
 use Rattle.packetizer.specs.Call.{unitPlan}
 use Rattle.packetizer.specs.declared.PacketMetadata.{PacketMetadata}
 use Rattle.packetizer.proofs.Stores as stores
-use Rattle.packetizer.proofs.Runs.{Sound}
-use Rattle.aggregation.specs.Header.{noObu, noPacket, byteOf, headerOf}
+use Rattle.aggregation.specs.Header.{noObu, noPacket, byteOf}
 use Rattle.aggregation.specs.Flat.{obusIn, packetsIn}
-use Rattle.payloader.specs.Payload.{payload}
 use Rattle.payloader.proofs.Units.{obus-flat, packets-flat, Lies, obu-lies}
-use Rattle.payloader.proofs.Bodies.{body, Writing, full, writing-room, writing-next, last-fits, writing-last}
-use Rattle.payloader.proofs.Packets.{packet-sound, packet-header, payload-is, writing-first, packet-written}
+use Rattle.payloader.proofs.Bodies.{body, Writing, writing-room, writing-next, last-fits, writing-last}
+use Rattle.payloader.proofs.Packets.{packet-header, payload-is, writing-first, packet-written}
 use Rattle.payloader.proofs.write_packet.Statement.{statement}
 use Rattle.payloader.proofs.write_packet.Tie as tie
-use Rattle.payloader.proofs.write_packet.Reads as reads
-use Rattle.payloader.proofs.write_packet.Lts as lts
-use Rattle.aggregation.proofs.packet_at.Reads as packet-at-reads
-use Rattle.payloader.proofs.header_byte.Reads as header-byte-reads
-use Rattle.payloader.proofs.put_element.Reads as put-element-reads
-use Rattle.payloader.proofs.size_at.Reads as size-at-reads
 
 abbrev Inv-loop : tie.InvT-loop
 Inv-loop mtu unit obus plan k out₀ at p cursor₀ left₀ i₀ from₀ out cursor left i from =

@@ -1,8 +1,7 @@
-use mathlib.Core.Path.{_≡_, refl, sym, ap, _∙_}
-use Prim.Native.Nat.{ℕ, _-_, _*_, _≤_, _<_}
+use mathlib.Core.Path.{_≡_, ap, _∙_}
+use Prim.Native.Nat.{_-_, _*_, _<_}
 use native.Mathlib.Omega.{arith}
 use borrow.Author.Needs.{needs}
-use mathlib.Core.List.{List}
 use lib.ListN.{length}
 use Rattle.packetizer.specs.Plan.{planNumbers}
 use Rattle.packetizer.specs.Call.{unitPlan}
@@ -10,9 +9,6 @@ use Rattle.packetizer.proofs.Stores.{flat-length}
 use Rattle.payloader.proofs.Totals.{Sending, sending-first, sending-room, sending-next, sending-last}
 use Rattle.payloader.proofs.write_packets.Statement.{statement}
 use Rattle.payloader.proofs.write_packets.Tie as tie
-use Rattle.payloader.proofs.write_packets.Reads as reads
-use Rattle.payloader.proofs.write_packets.Lts as lts
-use Rattle.payloader.proofs.write_packet.Reads as write-packet-reads
 
 abbrev Inv-loop : tie.InvT-loop
 Inv-loop mtu unit obus plan out₀ packets at₀ k₀ out at k = Sending mtu unit out₀ out k at

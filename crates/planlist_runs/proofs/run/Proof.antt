@@ -4,65 +4,46 @@ use lib.Seq.{length-take-le}
 use borrow.Author.Needs.{needs}
 use Rattle.planlist_runs.proofs.run.Statement.{statement}
 use Rattle.planlist_runs.proofs.run.Tie as tie
-use Rattle.planlist_runs.proofs.run.Reads as reads
-use Rattle.planlist_runs.proofs.run.Lts as lts
-use Rattle.listing.proofs.print_listing.Reads as print-listing-reads
-use Rattle.listing.proofs.unit_length.Reads as unit-length-reads
-use Rattle.planlist_runs.proofs.smaller.Reads as smaller-reads
 
--- src/main.rt:20:9
 smaller-requires : tie.Need-smaller-requires
 smaller-requires c κs = search needs
 
--- src/main.rt:21:39
 slice-aggregate-unit-length : tie.Need-slice-aggregate-unit-length
 slice-aggregate-unit-length c = sym (length-take-le (c .before .smaller .result) (c .before .before .before .before .before .args .input .now) (omega arith))
 
--- src/main.rt:21:9
 unit-length-requires : tie.Need-unit-length-requires
 unit-length-requires c κs = search needs
 
--- src/main.rt:22:38
 sub-smaller : tie.Need-sub-smaller
 sub-smaller c = search needs
 
--- src/main.rt:22:22
 smaller-requires-2 : tie.Need-smaller-requires-2
 smaller-requires-2 c κs = search needs
 
--- src/main.rt:22:15
 add-end : tie.Need-add-end
 add-end c = search needs
 
--- src/main.rt:24:9
 slice-aggregate-print-listing : tie.Need-slice-aggregate-print-listing
 slice-aggregate-print-listing c = sym (length-take-le (c .before .before .before .before .smaller .result) (c .before .before .before .before .before .before .before .before .args .input .now) (omega arith))
 
--- src/main.rt:25:9
 sub-print-listing : tie.Need-sub-print-listing
 sub-print-listing c = search needs
 
--- src/main.rt:25:9
 part-print-listing-start : tie.Need-part-print-listing-start
 part-print-listing-start c = search needs
 
--- src/main.rt:25:9
 part-print-listing-end : tie.Need-part-print-listing-end
 part-print-listing-end c = search needs
 
--- src/main.rt:23:5
 print-listing-requires : tie.Need-print-listing-requires
 print-listing-requires c κs = search needs
 
--- src/main.rt:19:1
 same-length : tie.Need-same-length
 same-length c = search needs
 
--- src/main.rt:19:1
 same-length-2 : tie.Need-same-length-2
 same-length-2 c = search needs
 
--- src/main.rt:19:1
 returns : tie.Need-returns
 returns c = search needs
 

@@ -1,6 +1,3 @@
-use mathlib.Core.Path.{_∙_}
-use native.Mathlib.Omega.{arith}
-use Rattle.train.proofs.Numbers.{two-value}
 use Rattle.train.proofs.Reading.{body-cut, body-found}
 use borrow.Author.Needs.{needs}
 use Rattle.train.proofs.read_body.Statement.{statement}
@@ -8,12 +5,6 @@ use Rattle.train.proofs.read_body.Tie as tie
 
 returns : tie.Need-returns
 returns c = body-cut (c .before .before .args .stated) 0 (c .before .before .args .bytes .now) (c .if1 .taken)
-
-shared-slice-read-two-bytes : tie.Need-shared-slice-read-two-bytes
-shared-slice-read-two-bytes c = search needs
-
-shared-slice-read-two-bytes-2 : tie.Need-shared-slice-read-two-bytes-2
-shared-slice-read-two-bytes-2 c = search needs
 
 two-bytes-requires : tie.Need-two-bytes-requires
 two-bytes-requires c κs = search needs
@@ -23,16 +14,14 @@ sub-t3 c = search needs
 
 returns-2 : tie.Need-returns-2
 returns-2 c =
-    let a = c .before .before .before .before .before .args in
-    body-found (a .stated) 0 (a .bytes .now) (c .two-bytes .result) (c .before .before .before .if1 .left) (c .two-bytes .ensures ∙ two-value (a .bytes .now) (omega arith))
+    let a = c .before .before .before .args in
+    body-found (a .stated) 0 (a .bytes .now) (c .two-bytes .result) (c .before .if1 .left) (c .two-bytes .ensures)
 
 pub read-body-spec : {M : Type 1} → statement M
 read-body-spec =
     tie.close
     (tie.spec
     returns
-    shared-slice-read-two-bytes
-    shared-slice-read-two-bytes-2
     two-bytes-requires
     sub-t3
     returns-2)

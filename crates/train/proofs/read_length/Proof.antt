@@ -1,28 +1,14 @@
-use mathlib.Core.Path.{_≡_, _∙_}
-use lib.ListN.{take}
-use Rattle.train.specs.Bytes.{valueOf}
 use Rattle.train.specs.Train.{lengthWidth}
-use Rattle.train.proofs.Numbers.{two-value}
 use Rattle.train.proofs.Reading.{length-none, length-cut, length-short, length-stated}
 use borrow.Author.Needs.{needs}
 use Rattle.train.proofs.read_length.Statement.{statement}
 use Rattle.train.proofs.read_length.Tie as tie
-
--- the number that the first two bytes form
-value : (c : tie.After-two-bytes) → c .two-bytes .result ≡ valueOf (take lengthWidth (c .before .before .before .before .before .before .args .bytes .now))
-value c = c .two-bytes .ensures ∙ two-value (c .before .before .before .before .before .before .args .bytes .now) (c .before .before .before .if2 .left)
 
 returns : tie.Need-returns
 returns c = length-none lengthWidth (c .before .before .args .bytes .now) (c .if1 .taken)
 
 returns-2 : tie.Need-returns-2
 returns-2 c = length-cut lengthWidth (c .before .before .before .args .bytes .now) (c .before .if1 .left) (c .if2 .taken)
-
-shared-slice-read-two-bytes : tie.Need-shared-slice-read-two-bytes
-shared-slice-read-two-bytes c = search needs
-
-shared-slice-read-two-bytes-2 : tie.Need-shared-slice-read-two-bytes-2
-shared-slice-read-two-bytes-2 c = search needs
 
 two-bytes-requires : tie.Need-two-bytes-requires
 two-bytes-requires c κs = search needs
@@ -31,10 +17,10 @@ cast-stated : tie.Need-cast-stated
 cast-stated c = search needs
 
 returns-3 : tie.Need-returns-3
-returns-3 c = length-short lengthWidth (c .before .before .before .before .before .before .before .args .bytes .now) (c .before .before .before .before .before .if1 .left) (c .before .two-bytes .result) (c .before .before .before .before .if2 .left) (value (c .before)) (c .if3 .taken)
+returns-3 c = length-short lengthWidth (c .before .before .before .before .before .args .bytes .now) (c .before .before .before .if1 .left) (c .before .two-bytes .result) (c .before .before .if2 .left) (c .before .two-bytes .ensures) (c .if3 .taken)
 
 returns-4 : tie.Need-returns-4
-returns-4 c = length-stated lengthWidth (c .before .before .before .before .before .before .before .args .bytes .now) (c .before .before .before .before .before .if1 .left) (c .before .two-bytes .result) (c .before .before .before .before .if2 .left) (value (c .before)) (c .if3 .left)
+returns-4 c = length-stated lengthWidth (c .before .before .before .before .before .args .bytes .now) (c .before .before .before .if1 .left) (c .before .two-bytes .result) (c .before .before .if2 .left) (c .before .two-bytes .ensures) (c .if3 .left)
 
 pub read-length-spec : {M : Type 1} → statement M
 read-length-spec =
@@ -42,8 +28,6 @@ read-length-spec =
     (tie.spec
     returns
     returns-2
-    shared-slice-read-two-bytes
-    shared-slice-read-two-bytes-2
     two-bytes-requires
     cast-stated
     returns-3

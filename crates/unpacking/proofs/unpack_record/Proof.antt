@@ -8,10 +8,6 @@ use Rattle.unpacking.proofs.Steps.{step-quits, step-breaks, step-receiv
 use borrow.Author.Needs.{needs}
 use Rattle.unpacking.proofs.unpack_record.Statement.{statement}
 use Rattle.unpacking.proofs.unpack_record.Tie as tie
-use Rattle.unpacking.proofs.unpack_record.Reads as reads
-use Rattle.unpacking.proofs.unpack_record.Lts as lts
-use Rattle.receiver.proofs.receive.Reads as receive-reads
-use Rattle.train.proofs.read_body.Reads as read-body-reads
 
 -- what the record's head speaks of lies in what was read
 read : (c : tie.After-struct-known) → holds (c .before .before .head .given .0 .0) ≡ bodyOf (c .before .before .before .before .before .before .before .before .args .stated) 0 (c .before .before .before .before .before .before .before .before .args .body .now)

@@ -1,5 +1,4 @@
 use Prim.Native.Nat.{_-_}
-use lib.ListN.{length}
 use borrow.Author.Needs.{needs}
 use Rattle.vectors.proofs.print_records.Statement.{statement}
 use Rattle.vectors.proofs.print_records.Tie as tie

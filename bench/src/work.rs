@@ -1,0 +1,106 @@
+//! One piece of work: a unit and an mtu, with everything that its sides are lent, so that a call allocates nothing of its own accord.
+use crate::codecs::av1::Av1Payloader;
+use crate::packetizer::Payloader;
+use av1rtp::lent::{self, State, OBU_NUMBERS, PLAN_NUMBERS};
+use bytes::Bytes;
+use std::hint::black_box;
+
+/// The size field of a value, shortest form.
+fn size_field(mut value: usize) -> Vec<u8> {
+    let mut field = vec![];
+    while value >= 128 {
+        field.push(value as u8 | 128);
+        value >>= 7;
+    }
+    field.push(value as u8);
+    field
+}
+
+/// A unit of so many bytes: OBUs of type 6, as equal as they can be, each with its size field, and bytes that look like noise.
+fn unit_of(size: usize, obus: usize) -> Vec<u8> {
+    let (mut unit, mut noise) = (Vec::with_capacity(size), 1u64);
+    for i in 0..obus {
+        let end = size * (i + 1) / obus;
+        unit.push(0x32);
+        let left = end - unit.len();
+        let body = (1..4).map(|f| left - f).find(|&body| size_field(body).len() == left - body).unwrap();
+        unit.extend(size_field(body));
+        while unit.len() < end {
+            noise = noise.wrapping_mul(6364136223846793005).wrapping_add(1442695040888963407);
+            unit.push((noise >> 56) as u8);
+        }
+    }
+    unit
+}
+
+pub struct Work {
+    mtu: usize,
+    unit: Bytes,
+    obus: Vec<u32>,
+    plan: Vec<u32>,
+    out: Vec<u8>,
+    payloads: Vec<Vec<u8>>,
+    store: Vec<u8>,
+    back: Vec<u8>,
+}
+
+impl Work {
+    /// The work, after a look that both payload calls give the same packets, but for the lengths of 128 or more that the crate writes
+    /// one byte longer, and that the receive call gives the unit back.
+    pub fn new(size: usize, obus: usize, mtu: usize) -> Self {
+        let unit = Bytes::from(unit_of(size, obus));
+        let theirs = Av1Payloader {}.payload(mtu, &unit).unwrap();
+        let mut work = Work {
+            mtu,
+            obus: vec![0; obus * OBU_NUMBERS],
+            plan: vec![0; theirs.len() * PLAN_NUMBERS],
+            out: vec![0; theirs.iter().map(|p| p.len()).sum()],
+            payloads: vec![],
+            store: vec![0; unit.len()],
+            back: vec![0; unit.len() + 4 * mtu],
+            unit,
+        };
+        work.ours();
+        let mut rest = &work.out[..];
+        for (k, their) in theirs.iter().enumerate() {
+            let (our, after) = rest.split_at(work.plan[k * PLAN_NUMBERS + 4] as usize + 1);
+            assert!(our == their || our.len() < their.len(), "payload {k} differs");
+            work.payloads.push(our.to_vec());
+            rest = after;
+        }
+        work.back();
+        assert!(work.back[..work.unit.len()] == work.unit[..], "what comes back is not the unit");
+        work
+    }
+
+    /// Our payload call.
+    pub fn ours(&mut self) {
+        let Work { mtu, unit, obus, plan, out, .. } = self;
+        black_box(lent::payload(*mtu, unit, obus, plan, out).unwrap());
+    }
+
+    /// The crate's, with the release of what it returns.
+    pub fn theirs(&mut self) {
+        black_box(Av1Payloader {}.payload(self.mtu, &self.unit).unwrap());
+    }
+
+    /// Every payload received, a call for each, and what goes out put one after the other.
+    pub fn back(&mut self) {
+        let (mut state, mut at) = (State::default(), 0);
+        for (k, payload) in self.payloads.iter().enumerate() {
+            at += lent::receive(&mut state, k as u16, payload, &mut self.store, &mut self.back[at..]).unwrap();
+        }
+        black_box(&self.back);
+    }
+
+    /// The same payloads copied one after the other.
+    pub fn copy(&mut self) {
+        let mut at = 0;
+        for payload in &self.payloads {
+            let end = at + payload.len();
+            self.out[at..end].copy_from_slice(black_box(payload));
+            at = end;
+        }
+        black_box(&self.out);
+    }
+}

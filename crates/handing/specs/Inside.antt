@@ -1,0 +1,58 @@
+-- What the functions that hand out promise; the contract of the receive call cites none of this.
+use Prim.Native.Nat.{ℕ, _+_, _-_, _≤_}
+use mathlib.Core.List.{List, [], _∷_, _++_, map}
+use mathlib.Core.Bool.{cond}
+use lib.ListN.{length, getD, take, drop}
+use lib.Dec.{eqb}
+use Rattle.base.specs.Answers.{Answer, given, refused}
+use Rattle.base.specs.Lists.{replaced, front}
+use Rattle.element.specs.Elements.{nowhere, bytesOf, payloadElements}
+use Rattle.element.specs.declared.Part.{Part}
+
+-- ---- bytes across store and payload
+
+-- so many bytes of the store, and then an element of the payload
+abbrev pub across : List ℕ → ℕ → List ℕ → ℕ → ℕ → List ℕ
+across store kept payload start size = take kept store ++ take size (drop start payload)
+
+-- how many bytes go out
+abbrev pub counted : Answer (List ℕ) → Answer ℕ
+counted (given bytes) = given (length bytes)
+counted (refused n at) = refused n at
+
+-- they are given, and from `at` on there is room for them
+abbrev pub RoomAt : ℕ → ℕ → Answer (List ℕ) → Type 0
+RoomAt room at (given bytes) = at + length bytes ≤ room
+RoomAt room at (refused n a) = ⊥
+
+-- a list with them stored from `at` on, and with them first
+abbrev pub putAt : List ℕ → ℕ → Answer (List ℕ) → List ℕ
+putAt l at (given bytes) = replaced l at bytes
+putAt l at (refused n a) = l
+
+abbrev pub putFirst : List ℕ → Answer (List ℕ) → List ℕ
+putFirst l (given bytes) = front bytes l
+putFirst l (refused n a) = l
+
+-- ---- elements
+
+abbrev pub partsBy : Answer (List Part) → List Part
+partsBy (given ps) = ps
+partsBy (refused n at) = []
+
+abbrev pub partsOf : List ℕ → List Part
+partsOf payload = partsBy (payloadElements payload)
+
+-- the cursor of element i
+abbrev pub cursorOf : List Part → ℕ → ℕ
+cursorOf ps i = cond (eqb i 0) 1 (getD ps (i - 1) nowhere .next)
+
+-- some bytes put in front of the first
+abbrev pub led : List ℕ → List (List ℕ) → List (List ℕ)
+led bytes [] = []
+led bytes (e ∷ es) = (bytes ++ e) ∷ es
+
+-- elements `from` up to `to`, the first of them with `kept` bytes of the store in front
+abbrev pub between : List ℕ → ℕ → List ℕ → ℕ → ℕ → List (List ℕ)
+between store kept payload from to =
+    take (to - from) (led (take kept store) (drop from (map (bytesOf payload) (partsOf payload))))

@@ -1,0 +1,257 @@
+// OBUs that lie across store and payload (V8 to V12, R18): judged, counted and handed out.
+use base::Refusal;
+use element::ElementRead;
+use obu::Head;
+use obu::ObuRead;
+ghost use mathlib.Core.Path.{_≡_};
+ghost use Prim.Native.Nat.{_+_, _-_, _≤_, _<_};
+ghost use mathlib.Core.Bool.{true, cond};
+ghost use mathlib.Core.List.{_∷_};
+ghost use lib.ListN.{length, take, drop};
+ghost use Rattle.base.specs.Answers.{given};
+ghost use Rattle.base.specs.Lists.{replaced};
+ghost use Rattle.element.specs.Elements.{payloadElements};
+ghost use Rattle.obu.specs.Header.{headerSize, marked};
+ghost use Rattle.obu.specs.Front.{startOf, spanOf};
+ghost use Rattle.obu.specs.Wire.{extensionBytes, wholeOf, framed, wire};
+ghost use Rattle.obu.specs.Paper.{paperHead, paperWhole};
+ghost use Rattle.handing.specs.Handing.{fragmentLimit, wires};
+ghost use Rattle.handing.specs.Inside.{counted, RoomAt, putAt, putFirst, partsOf, cursorOf, between};
+ghost use Rattle.handing.specs.Paper.{paperHanded, fragmentOf};
+
+// The bytes that decide an OBU's front.
+const HEAD_BYTES: usize = 10;
+
+// Bytes across store and payload: the first `kept` of the store, then `size` of the payload from `start` on.
+pub struct Fragment {
+    pub kept: usize,
+    pub start: usize,
+    pub size: usize,
+}
+
+// How many bytes go out for finished OBUs, or the refusal of one of them.
+pub enum HandedOut {
+    Bytes(usize),
+    Refused(Refusal),
+}
+
+// Copies `size` bytes of one slice, from `start` on, into another, from `at` on.
+pub fn copy(to: &mut [u8], at: usize, from: &[u8], start: usize, size: usize)
+    requires { ⌜ (at + size ≤ length (now to)) × (start + size ≤ length (now from)) ⌝ }
+    ensures { λ _. ⌜ now (to .exit) ≡ replaced (now (to .entry)) at (take size (drop start (now (from .entry)))) ⌝ }
+{
+    base::copy_bytes(from, start, size, to, at);
+}
+
+// Copies a fragment, from byte `skip` of it on.
+fn copy_across(to: &mut [u8], at: usize, store: &[u8], payload: &[u8], f: Fragment, skip: usize)
+    requires { ⌜ (f .kept ≤ length (now store)) × (f .start + f .size ≤ length (now payload)) × (skip ≤ f .kept + f .size)
+        × (at + (f .kept + f .size - skip) ≤ length (now to)) ⌝ }
+    ensures { λ _. ⌜ now (to .exit) ≡ replaced (now (to .entry)) at (drop skip (fragmentOf (now (store .entry)) (now (payload .entry)) f)) ⌝ }
+{
+    let kept = f.kept;
+    let start = f.start;
+    let size = f.size;
+    if skip < kept {
+        let n = kept - skip;
+        copy(to, at, store, skip, n);
+        copy(to, at + n, payload, start, size);
+    } else {
+        let passed = skip - kept;
+        copy(to, at, payload, start + passed, size - passed);
+    }
+}
+
+// The OBU of exactly a fragment's bytes, judged by the first of them, which are put together in an array.
+fn judge_across(store: &[u8], payload: &[u8], f: Fragment) -> ObuRead
+    requires { ⌜ (f .kept ≤ length (now store)) × (f .start + f .size ≤ length (now payload)) × (1 ≤ f .size) ⌝ }
+    ensures { λ r. ⌜ paperWhole r ≡ wholeOf (fragmentOf (now (store .entry)) (now (payload .entry)) f) ⌝ }
+{
+    let kept = f.kept;
+    let start = f.start;
+    let size = f.size;
+    let mut head = [0u8; 10];
+    let a = base::smaller(kept, HEAD_BYTES);
+    let b = base::smaller(size, HEAD_BYTES - a);
+    copy(&mut head, 0, store, 0, a);
+    copy(&mut head, a, payload, start, b);
+    let n = a + b;
+    obu::whole_obu(&head[..n], kept + size)
+}
+
+// The OBU of exactly a fragment's bytes: those of the payload alone are judged where they stand.
+fn judge(store: &[u8], payload: &[u8], f: Fragment) -> ObuRead
+    requires { ⌜ (f .kept ≤ length (now store)) × (f .start + f .size ≤ length (now payload)) × (1 ≤ f .size) ⌝ }
+    ensures { λ r. ⌜ paperWhole r ≡ wholeOf (fragmentOf (now (store .entry)) (now (payload .entry)) f) ⌝ }
+{
+    if f.kept == 0 {
+        let start = f.start;
+        let end = start + f.size;
+        return obu::whole_obu(&payload[start..end], f.size);
+    }
+    judge_across(store, payload, f)
+}
+
+// Writes an OBU's header byte with bit 1 set and its extension byte, and returns the cursor after them.
+fn put_header(out: &mut [u8], at: usize, header: u8, extension: u8) -> usize
+    requires { ⌜ at + headerSize header ≤ length (now out) ⌝ }
+    ensures { λ r. ⌜ (r ≡ at + headerSize header)
+        × (now (out .exit) ≡ replaced (now (out .entry)) at (marked header ∷ extensionBytes header extension)) ⌝ }
+{
+    out[at] = obu::with_size_bit(header);
+    if obu::obu_has_extension(header) {
+        out[at + 1] = extension;
+        return at + 2;
+    }
+    at + 1
+}
+
+// Writes a fragment that is an OBU as it goes out, where told to: header bytes, shortest size field, payload.
+fn put_obu(
+    out: &mut [u8],
+    at: usize,
+    head: Head,
+    store: &[u8],
+    payload: &[u8],
+    f: Fragment,
+    write: bool,
+)
+    requires { ⌜ (f .kept ≤ length (now store)) × (f .start + f .size ≤ length (now payload)) × (f .kept + f .size < 4294967296)
+        × (spanOf (paperHead head) ≡ f .kept + f .size) ⌝ }
+    requires { ⌜ (write ≡ true
+        → at + length (framed (head .header) (head .extension) (drop (startOf (paperHead head)) (fragmentOf (now store) (now payload) f))) ≤ length (now out)) ⌝ }
+    ensures { λ _. ⌜ now (out .exit) ≡ cond write
+        (replaced (now (out .entry)) at (framed (head .header) (head .extension)
+        (drop (startOf (paperHead head)) (fragmentOf (now (store .entry)) (now (payload .entry)) f))))
+        (now (out .entry)) ⌝ }
+{
+    if write {
+        let field = put_header(out, at, head.header, head.extension);
+        let body = leb128::put_leb128(out, field, head.payload as u32);
+        let skip = obu::header_size(head.header) + head.field;
+        copy_across(out, body, store, payload, f, skip);
+    }
+}
+
+// One finished OBU: judged, counted, and written at the cursor `at` where told to.
+fn finish_obu(
+    store: &[u8],
+    payload: &[u8],
+    f: Fragment,
+    out: &mut [u8],
+    at: usize,
+    write: bool,
+) -> HandedOut
+    requires { ⌜ (f .kept ≤ length (now store)) × (f .start + f .size ≤ length (now payload)) × (1 ≤ f .size) × (f .kept + f .size < 4294967296) ⌝ }
+    requires { ⌜ (write ≡ true → RoomAt (length (now out)) at (wire (fragmentOf (now store) (now payload) f))) ⌝ }
+    ensures { λ r. ⌜ (paperHanded r ≡ counted (wire (fragmentOf (now (store .entry)) (now (payload .entry)) f)))
+        × (now (out .exit) ≡ cond write (putAt (now (out .entry)) at (wire (fragmentOf (now (store .entry)) (now (payload .entry)) f))) (now (out .entry))) ⌝ }
+{
+    match judge(store, payload, f) {
+        ObuRead::Refused(refusal) => HandedOut::Refused(refusal),
+        ObuRead::Found(head) => {
+            if obu::should_ignore_obu_type(obu::obu_type(head.header)) {
+                return HandedOut::Bytes(0);
+            }
+            put_obu(out, at, head, store, payload, f, write);
+            let field = leb128::leb128_size(head.payload as u32);
+            HandedOut::Bytes(obu::header_size(head.header) + field + head.payload)
+        }
+    }
+}
+
+// Elements `from` up to `to`, each finishing an OBU, the first with `joined` bytes of the store in front: counted, and written where told to.
+fn hand_out(
+    payload: &[u8],
+    cursor: usize,
+    from: usize,
+    to: usize,
+    store: &[u8],
+    joined: usize,
+    out: &mut [u8],
+    write: bool,
+) -> HandedOut
+    requires { ⌜ (payloadElements (now payload) ≡ given (partsOf (now payload))) × (cursor ≡ cursorOf (partsOf (now payload)) from)
+        × (from ≤ length (partsOf (now payload))) × (to ≤ length (partsOf (now payload)))
+        × (joined ≤ length (now store)) × (joined ≤ fragmentLimit) ⌝ }
+    requires { ⌜ (write ≡ true → RoomAt (length (now out)) 0 (wires (between (now store) joined (now payload) from to))) ⌝ }
+    ensures { λ r. ⌜ (paperHanded r ≡ counted (wires (between (now (store .entry)) joined (now (payload .entry)) from to)))
+        × (now (out .exit) ≡ cond write (putFirst (now (out .entry)) (wires (between (now (store .entry)) joined (now (payload .entry)) from to))) (now (out .entry))) ⌝ }
+{
+    let w = element::header_w(payload[0]);
+    let mut at = cursor;
+    let mut i = from;
+    let mut kept = joined;
+    let mut bytes: usize = 0;
+    while i < to {
+        match element::read_element(payload, at, element::has_field(w, i)) {
+            // never, since the elements were read before
+            ElementRead::Refused { refusal, at: _ } => {
+                return HandedOut::Refused(refusal);
+            }
+            ElementRead::Found(part) => {
+                let f = Fragment {
+                    kept: kept,
+                    start: part.start,
+                    size: part.length,
+                };
+                match finish_obu(store, payload, f, out, bytes, write) {
+                    HandedOut::Refused(refusal) => {
+                        return HandedOut::Refused(refusal);
+                    }
+                    HandedOut::Bytes(n) => {
+                        bytes = bytes + n;
+                        kept = 0;
+                        i = i + 1;
+                        at = part.next;
+                    }
+                }
+            }
+        }
+    }
+    HandedOut::Bytes(bytes)
+}
+
+// How many bytes go out for them. Most packets of a long OBU finish none.
+pub fn count_out(
+    payload: &[u8],
+    cursor: usize,
+    from: usize,
+    to: usize,
+    store: &[u8],
+    joined: usize,
+    out: &mut [u8],
+) -> HandedOut
+    requires { ⌜ (payloadElements (now payload) ≡ given (partsOf (now payload))) × (cursor ≡ cursorOf (partsOf (now payload)) from)
+        × (from ≤ length (partsOf (now payload))) × (to ≤ length (partsOf (now payload)))
+        × (joined ≤ length (now store)) × (joined ≤ fragmentLimit) ⌝ }
+    ensures { λ r. ⌜ (paperHanded r ≡ counted (wires (between (now (store .entry)) joined (now (payload .entry)) from to)))
+        × (now (out .exit) ≡ now (out .entry)) ⌝ }
+{
+    if to <= from {
+        return HandedOut::Bytes(0);
+    }
+    hand_out(payload, cursor, from, to, store, joined, out, false)
+}
+
+// Writes them first into the output.
+pub fn write_out(
+    payload: &[u8],
+    cursor: usize,
+    from: usize,
+    to: usize,
+    store: &[u8],
+    joined: usize,
+    out: &mut [u8],
+)
+    requires { ⌜ (payloadElements (now payload) ≡ given (partsOf (now payload))) × (cursor ≡ cursorOf (partsOf (now payload)) from)
+        × (from ≤ length (partsOf (now payload))) × (to ≤ length (partsOf (now payload)))
+        × (joined ≤ length (now store)) × (joined ≤ fragmentLimit) ⌝ }
+    requires { ⌜ RoomAt (length (now out)) 0 (wires (between (now store) joined (now payload) from to)) ⌝ }
+    ensures { λ _. ⌜ now (out .exit) ≡ putFirst (now (out .entry)) (wires (between (now (store .entry)) joined (now (payload .entry)) from to)) ⌝ }
+{
+    if to <= from {
+        return;
+    }
+    hand_out(payload, cursor, from, to, store, joined, out, true);
+}
