@@ -48,10 +48,7 @@ fn print_state(state: State) {
 
 fn print_receipt(receipt: Receipt, out: &[u8]) {
     match receipt {
-        Receipt::Refused(refusal) => {
-            show::mark(b' ');
-            show::refusal(refusal);
-        }
+        Receipt::Refused(refusal) => show::refusal(refusal),
         Receipt::Received(got) => {
             show::bracketed(show::first(out, got.bytes));
             print_state(got.state);
@@ -95,7 +92,7 @@ fn changed(second: bool, at: usize, b: u8)
 
 // A line for each prefix of a payload.
 pub fn prefixes(second: bool) {
-    show::text(b"payload, cut\n");
+    show::text(b"payload\n");
     let mut n: usize = 0;
     while n < PAYLOAD {
         cut(second, n);
@@ -105,7 +102,6 @@ pub fn prefixes(second: bool) {
 
 // A line for each value of each byte of a payload.
 pub fn changes(second: bool) {
-    show::text(b"payload, changed\n");
     let mut n: usize = 0;
     while n < CHANGES {
         changed(second, n / 256, (n % 256) as u8);

@@ -19,6 +19,16 @@ pub fn byte(b: u8) {
     io::print_hex(STDOUT_FILENO, b as u64, 2);
 }
 
+// A number with a blank before it.
+pub fn spaced(n: usize) {
+    mark(b' ');
+    number(n);
+}
+
+pub fn refusal(refused: Refusal) {
+    spaced(base::number(refused) as usize);
+}
+
 // Bytes in brackets.
 pub fn bracketed(bytes: &[u8]) {
     mark(b' ');
@@ -29,22 +39,6 @@ pub fn bracketed(bytes: &[u8]) {
         i += 1;
     }
     mark(b']');
-}
-
-// A number with a blank before it.
-pub fn spaced(n: usize) {
-    mark(b' ');
-    number(n);
-}
-
-pub fn refusal(refused: Refusal) {
-    number(base::number(refused) as usize);
-}
-
-// What is said of a record or a unit begins with it.
-pub fn said(index: usize) {
-    spaced(index);
-    mark(b':');
 }
 
 // The first n bytes; all, if there are fewer.

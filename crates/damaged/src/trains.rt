@@ -19,45 +19,44 @@ const OUTPUT: usize = 64;
 // A place past every train: a run that stopped is there, and finds nothing more.
 const NOWHERE: usize = usize::MAX;
 
-// Where a run stands: the next byte, the next record and the receiver's state.
+// Where a run stands: the next byte, and the receiver's state.
 struct Place {
     at: usize,
-    record: usize,
     state: State,
 }
 
-// The place after a record, with the state to go on with.
-fn after(place: Place, at: usize, state: State) -> Place {
+// A record that is refused leaves the state as it was; the run goes on at `at`.
+fn refused(refusal: Refusal, at: usize, state: State) -> Place {
+    show::refusal(refusal);
     Place {
         at: at,
-        record: show::further(place.record, 1),
         state: state,
     }
 }
 
-// A refused record, after which the run goes on at `at`.
-fn refused(place: Place, refusal: Refusal, at: usize) -> Place {
-    show::said(place.record);
-    show::refusal(refusal);
-    after(place, at, place.state)
-}
-
 // What a record led to, with what was then in the output; the next one begins at `end`.
-fn stepped(place: Place, step: RecordStep, out: &[u8], end: usize) -> Place {
+fn stepped(state: State, step: RecordStep, out: &[u8], end: usize) -> Place {
     match step {
-        RecordStep::End => after(place, NOWHERE, place.state),
-        RecordStep::Broken(refusal) => refused(place, refusal, NOWHERE),
-        RecordStep::PassedOver(refusal) => refused(place, refusal, end),
+        RecordStep::End => Place {
+            at: NOWHERE,
+            state: state,
+        },
+        RecordStep::Broken(refusal) => refused(refusal, NOWHERE, state),
+        RecordStep::PassedOver(refusal) => refused(refusal, end, state),
         RecordStep::Taken(taken) => {
             show::bracketed(show::first(out, taken.bytes));
-            after(place, end, taken.state)
+            let next = taken.state;
+            Place {
+                at: end,
+                state: next,
+            }
         }
     }
 }
 
 // A record of so many bytes, which begin at `at`, given to the receiver.
 fn unpack_bytes(
-    place: Place,
+    state: State,
     at: usize,
     stated: usize,
     train: &[u8],
@@ -67,8 +66,8 @@ fn unpack_bytes(
 {
     let mut out = [0u8; OUTPUT];
     let body = show::part(train, at, stated);
-    let step = unpacking::unpack_record(place.state, stated, body, store, &mut out);
-    stepped(place, step, &out, show::further(at, stated))
+    let step = unpacking::unpack_record(state, stated, body, store, &mut out);
+    stepped(state, step, &out, show::further(at, stated))
 }
 
 // The next record, if there is one.
@@ -76,10 +75,10 @@ fn unpack_next(place: Place, train: &[u8], store: &mut [u8; STORE]) -> Place {
     let at = place.at;
     match unpacking::read_stated(show::part(train, at, train::LENGTH_WIDTH)) {
         LengthRead::End => place,
-        LengthRead::Refused(refusal) => refused(place, refusal, NOWHERE),
+        LengthRead::Refused(refusal) => refused(refusal, NOWHERE, place.state),
         LengthRead::Stated(stated) => {
             let body = show::further(at, train::LENGTH_WIDTH);
-            unpack_bytes(place, body, stated.bytes, train, store)
+            unpack_bytes(place.state, body, stated.bytes, train, store)
         }
     }
 }
@@ -89,7 +88,6 @@ fn unpack_all(train: &[u8]) {
     let mut store = [0u8; STORE];
     let mut place = Place {
         at: 1,
-        record: 0,
         state: unpacking::fresh_state(),
     };
     let mut turns = MOST_RECORDS;
@@ -103,9 +101,6 @@ fn unpack_all(train: &[u8]) {
 pub fn run(train: &[u8]) {
     match train::read_head(show::first(train, 1)) {
         HeadRead::Train(head) => unpack_all(train),
-        HeadRead::Refused(refusal) => {
-            show::text(b" train:");
-            show::refusal(refusal);
-        }
+        HeadRead::Refused(refusal) => show::refusal(refusal),
     }
 }

@@ -19,46 +19,45 @@ const OUTPUT: usize = 64;
 
 const RECORD_BYTES: usize = 96;
 
-// Where a run stands: the next byte, the next unit and the next number.
+// Where a run stands: the next byte, and the next number.
 struct Place {
     at: usize,
-    unit: usize,
     number: u16,
 }
 
-// The place after a unit, with the number to go on with.
-fn after(place: Place, at: usize, number: u16) -> Place {
+// The run stops here.
+fn stopped(number: u16) -> Place {
     Place {
-        at: at,
-        unit: show::further(place.unit, 1),
+        at: NOWHERE,
         number: number,
     }
 }
 
-fn cut(place: Place) -> Place {
-    show::said(place.unit);
-    show::text(b"cut");
-    after(place, NOWHERE, place.number)
+fn cut(number: u16) -> Place {
+    show::text(b" cut");
+    stopped(number)
 }
 
 // What a unit led to, with what was then in the store for records; the next one begins at `end`.
-fn stepped(place: Place, answer: UnitAnswer, records: &[u8], end: usize) -> Place {
+fn stepped(number: u16, answer: UnitAnswer, records: &[u8], end: usize) -> Place {
     match answer {
-        UnitAnswer::Cut => cut(place),
+        UnitAnswer::Cut => cut(number),
         UnitAnswer::Refused(refusal) => {
-            show::said(place.unit);
             show::refusal(refusal);
-            after(place, NOWHERE, place.number)
+            stopped(number)
         }
         UnitAnswer::Packed(made) => {
             show::bracketed(show::first(records, made.bytes));
-            after(place, end, made.next)
+            Place {
+                at: end,
+                number: made.next,
+            }
         }
     }
 }
 
 // A unit of so many bytes, which begin at `at`.
-fn pack_bytes(place: Place, mtu: usize, at: usize, stated: usize, input: &[u8]) -> Place {
+fn pack_bytes(mtu: usize, number: u16, at: usize, stated: usize, input: &[u8]) -> Place {
     let mut obus = [0u32; LIST_NUMBERS];
     let mut plan = [0u32; LIST_NUMBERS];
     let mut out = [0u8; OUTPUT];
@@ -66,7 +65,7 @@ fn pack_bytes(place: Place, mtu: usize, at: usize, stated: usize, input: &[u8]) 
     let unit = show::part(input, at, stated);
     let answer = packing::pack_unit(
         mtu,
-        place.number,
+        number,
         stated,
         unit,
         &mut obus,
@@ -74,18 +73,18 @@ fn pack_bytes(place: Place, mtu: usize, at: usize, stated: usize, input: &[u8]) 
         &mut out,
         &mut records,
     );
-    stepped(place, answer, &records, show::further(at, stated))
+    stepped(number, answer, &records, show::further(at, stated))
 }
 
 // The next unit, if there is one.
-fn pack_next(place: Place, mtu: usize, input: &[u8]) -> Place {
+fn pack_next(mtu: usize, place: Place, input: &[u8]) -> Place {
     let at = place.at;
     match packing::read_unit_length(show::part(input, at, packing::UNIT_WIDTH)) {
         UnitLength::End => place,
-        UnitLength::Cut => cut(place),
+        UnitLength::Cut => cut(place.number),
         UnitLength::Stated(stated) => {
             let unit = show::further(at, packing::UNIT_WIDTH);
-            pack_bytes(place, mtu, unit, stated, input)
+            pack_bytes(mtu, place.number, unit, stated, input)
         }
     }
 }
@@ -94,12 +93,11 @@ fn pack_next(place: Place, mtu: usize, input: &[u8]) -> Place {
 fn pack_all(head: PackHead, input: &[u8]) {
     let mut place = Place {
         at: packing::HEAD_WIDTH,
-        unit: 0,
         number: head.first,
     };
     let mut turns = MOST_UNITS;
     while turns > 0 {
-        place = pack_next(place, head.mtu, input);
+        place = pack_next(head.mtu, place, input);
         turns -= 1;
     }
 }

@@ -5,10 +5,10 @@ use Rattle.damaged.proofs.prefixes.Statement.{statement}
 use Rattle.damaged.proofs.prefixes.Tie as tie
 
 abbrev Inv-loop : tie.InvT-loop
-Inv-loop program input n₀ n = n ≤ length input
+Inv-loop packs input n₀ n = n ≤ length input
 
 abbrev μ-loop : tie.MeasureT-loop
-μ-loop program input n₀ n = length input - n
+μ-loop packs input n₀ n = length input - n
 
 loop-holds : tie.Need-loop-holds Inv-loop μ-loop
 loop-holds c = search needs

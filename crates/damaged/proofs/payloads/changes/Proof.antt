@@ -9,12 +9,6 @@ Inv-loop second n₀ n = n ≤ 2304
 abbrev μ-loop : tie.MeasureT-loop
 μ-loop second n₀ n = 2304 - n
 
-slice-aggregate-text : tie.Need-slice-aggregate-text Inv-loop μ-loop
-slice-aggregate-text c = search needs
-
-text-requires : tie.Need-text-requires Inv-loop μ-loop
-text-requires c κs = search needs
-
 loop-holds : tie.Need-loop-holds Inv-loop μ-loop
 loop-holds c = search needs
 
@@ -42,8 +36,6 @@ changes-spec =
     (tie.spec
     Inv-loop
     μ-loop
-    slice-aggregate-text
-    text-requires
     loop-holds
     cast-changed
     changed-requires
