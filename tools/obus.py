@@ -1,4 +1,5 @@
 """A stream of OBUs that all have their size fields (AV1 specification, section 5), taken apart. Standard library only."""
+import signal
 import sys
 from collections import namedtuple
 
@@ -46,11 +47,12 @@ def obus(stream):
 
 def run(name, main):
     """Writes what main makes of the command's words. Bad input, and a file that cannot be read, end with one line and status 1."""
+    signal.signal(signal.SIGPIPE, signal.SIG_DFL)       # a reader that has enough ends the tool, with nothing said
     try:
         written = main(sys.argv[1:])
     except Bad as what:
         sys.exit("%s: %s" % (name, what))
     except OSError as what:
-        sys.exit("%s: %s: %s" % (name, what.filename, what.strerror))
+        sys.exit("%s: %s: %s" % (name, what.filename or "the input", what.strerror))
     sys.stdout.buffer.write(written)
     sys.stdout.buffer.flush()
