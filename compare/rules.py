@@ -10,6 +10,7 @@ rules that it carries by their identifiers there. A refusal is the exception Ref
 import random
 import sys
 from collections import namedtuple
+from itertools import count as counted
 
 UNIT_LIMIT = 1_048_576          # L1, bytes of a unit
 MTU_LIMIT = 65_533              # L2
@@ -27,6 +28,33 @@ Obu = namedtuple("Obu", "header extension start length size")      # O7
 Packet = namedtuple("Packet", "first count offset last size")       # P2
 State = namedtuple("State", "begun last open")                      # V1
 FRESH = State(False, 0, 0)
+Taken = namedtuple("Taken", "state bytes fragment_lost element_lost")   # V12
+
+WORDS = {                       # G7, what a refusal says in brackets on standard error
+    1: "the mtu is over its limit",
+    2: "the unit is over its limit",
+    3: "an OBU's extension byte is missing",
+    4: "an OBU's size field is missing",
+    5: "the unit ends inside a size field",
+    6: "a size field is too long or its value too large",
+    7: "an OBU runs past the end of the unit",
+    8: "the OBU list is full",
+    9: "the plan list is too short",
+    10: "the output is too short for the payloads",
+    11: "no such packet, or its record does not fit",
+    12: "the state does not fit its store",
+    13: "the payload is empty or over its limit",
+    14: "the number is not ahead",
+    15: "N and Z are both set",
+    16: "an element's length field is bad or missing",
+    17: "an element is empty, missing or past the end",
+    18: "a finished OBU is not well formed",
+    19: "the open fragment is too long",
+    20: "the output is too short for the OBUs",
+    21: "no train of a known version",
+    22: "the train ends inside a record",
+    23: "a record's length is below 3",
+}
 
 
 class Refused(Exception):
@@ -372,7 +400,7 @@ def wire(obu):
 
 
 def receive(state, number, data, store, out):
-    """The receive call (C3, C8, C10, V2 to V16): the new state and the bytes handed out, or R12 to R20."""
+    """The receive call (C3, C8, C10, V2 to V16): what it answers to a packet that it takes, or R12 to R20."""
     if state.open > len(store) or state.open > FRAGMENT_LIMIT:
         raise Refused(12)
     check_payload_length(data)
@@ -385,11 +413,12 @@ def receive(state, number, data, store, out):
         raise Refused(bad.number) from None
     z, y = data[0] & 128 != 0, data[0] & 64 != 0
     in_step = state.begun and distance == 1
-    fragment = bytes(store[:state.open]) if in_step and z else b""
-    if z and fragment:
-        parts[0] = fragment + parts[0]              # V6, joined
+    fragment_lost = state.open > 0 and not (in_step and z)      # V5
+    element_lost = z and not (state.open > 0 and in_step)       # V6
+    if element_lost:
+        parts = parts[1:]
     elif z:
-        parts = parts[1:]                           # V6, thrown away
+        parts[0] = bytes(store[:state.open]) + parts[0]         # V6, joined
     left_open = parts.pop() if y and parts else b""
     handed = b"".join([wire(part) for part in parts])
     if len(left_open) > len(store) or len(left_open) > FRAGMENT_LIMIT:
@@ -398,7 +427,7 @@ def receive(state, number, data, store, out):
         raise Refused(20)
     store[:len(left_open)] = left_open
     out[:len(handed)] = handed
-    return State(True, number, len(left_open)), len(handed)
+    return Taken(State(True, number, len(left_open)), len(handed), fragment_lost, element_lost)
 
 
 # ---- the train file
@@ -408,104 +437,183 @@ def train_record(number, data):
     return (len(data) + 2).to_bytes(2, "big") + number.to_bytes(2, "big") + data
 
 
-def read_train(file):
-    """T1, T3, C4. The records (number, payload) of a train that stand, and what ends them: None, 21, 22 or 23."""
-    if file[:1] != b"\x01":
-        return [], 21
-    found, at = [], 1
-    while at < len(file):
-        if len(file) - at < 2:
-            return found, 22
-        length = int.from_bytes(file[at:at + 2], "big")
-        if length < 3:
-            return found, 23
-        if len(file) - at - 2 < length:
-            return found, 22
-        found.append((int.from_bytes(file[at + 2:at + 4], "big"), file[at + 4:at + 2 + length]))
-        at += 2 + length
-    return found, None
+def read_version(source):
+    """T1. The version byte of a train, or R21."""
+    if source.read(1, "train") != b"\x01":
+        raise Refused(21)
+
+
+def read_record(source, of):
+    """T2, T3, C4. The next record of a train as number and payload, None at its end, or R22 or R23."""
+    field = source.read(2, of)
+    if not field:
+        return None
+    if len(field) < 2:
+        raise Refused(22)
+    length = int.from_bytes(field, "big")
+    if length < 3:
+        raise Refused(23)
+    body = source.read(length, of)
+    if len(body) < length:
+        raise Refused(22)
+    return int.from_bytes(body[:2], "big"), body[2:]
 
 
 # ---- the programs
 
-def pack_steps(data):
-    """G2 to G4, G6, G7. What `pack` does, step by step: bytes that it writes, and at most one (unit, refusal or 'cut')."""
-    if len(data) < 5 or data[0] != 1:
+Written = namedtuple("Written", "of data")      # bytes for standard output, and what they are of (G14)
+Said = namedtuple("Said", "line")               # a line for standard error (G7)
+
+
+class Failed(Exception):
+    """G14. What a failed read or write was of, and which of the two it was."""
+
+
+class Source:
+    """G1, G14. What a program reads: these bytes, and behind them the end, or a read that fails."""
+
+    def __init__(self, data, fails=False):
+        self.data, self.fails, self.at = data, fails, 0
+
+    def read(self, count, of):
+        """The next `count` bytes, fewer at the end; `of` is what they are of."""
+        part = self.data[self.at:self.at + count]
+        self.at += len(part)
+        if self.fails and len(part) < count:
+            raise Failed(of, "read")
+        return part
+
+
+def refused(of, number):
+    """G7. The line of a refusal: its number, and its words in brackets."""
+    return Said("%s: %d (%s)" % (of, number, WORDS[number]))
+
+
+def pack_steps(source):
+    """G2 to G4, G6, G7. What `pack` does, step by step."""
+    head = source.read(5, "input")
+    if len(head) < 5 or head[0] != 1:
+        yield Said("input: no head")
         return
-    yield b"\x01"
-    mtu, number = int.from_bytes(data[1:3], "big"), int.from_bytes(data[3:5], "big")
-    at, index = 5, 0
-    while at < len(data):
-        length = int.from_bytes(data[at:at + 4], "big")
-        unit = data[at + 4:at + 4 + length]
-        if len(data) - at < 4 or length > STORE_BYTES or len(unit) < length:
-            yield index, "cut"
+    yield Written("train", b"\x01")
+    mtu, number = int.from_bytes(head[1:3], "big"), int.from_bytes(head[3:5], "big")
+    for index in counted():
+        of = "unit %d" % index
+        field = source.read(4, of)
+        if not field:
+            return
+        length = int.from_bytes(field, "big")
+        if len(field) < 4 or length > STORE_BYTES:
+            yield Said("%s: cut" % of)
+            return
+        unit = source.read(length, of)
+        if len(unit) < length:
+            yield Said("%s: cut" % of)
             return
         obus, plan, out = [0] * (5 * LIST_RECORDS), [0] * (5 * LIST_RECORDS), bytearray(OUTPUT_BYTES)
         try:
             _, packets, _ = payload(mtu, unit, obus, plan, out)
         except Refused as bad:
-            yield index, bad.number
+            yield refused(of, bad.number)
             return
-        written, begins = bytearray(), 0
+        begins = 0
         for packet in records(plan[:5 * packets], Packet, PLAN_NUMBERS):
             ends = begins + packet.size + 1
-            written += train_record(number, bytes(out[begins:ends]))
+            yield Written(of, train_record(number, bytes(out[begins:ends])))
             begins, number = ends, (number + 1) % 65_536
-        yield bytes(written)
-        at, index = at + 4 + length, index + 1
 
 
-def unpack_steps(file):
-    """G5 to G7. What `unpack` does, step by step: bytes that it writes for a packet taken, and (record or 'train', refusal)."""
-    found, stop = read_train(file)
+def unpack_steps(source):
+    """G5 to G7, G15. What `unpack` does, step by step."""
+    try:
+        read_version(source)
+    except Refused as bad:
+        yield refused("train", bad.number)
+        return
     state, store, out = FRESH, bytearray(STORE_BYTES), bytearray(OUTPUT_BYTES)
-    for index, (number, data) in enumerate(found):
+    packets = fragments = elements = 0              # G15, what was lost
+    for index in counted():
+        of = "record %d" % index
         try:
-            state, count = receive(state, number, data, store, out)
-            yield bytes(out[:count])
+            record = read_record(source, of)
         except Refused as bad:
-            yield index, bad.number
-    if stop is not None:
-        yield "train" if stop == 21 else len(found), stop
+            yield refused(of, bad.number)
+            break
+        if record is None:
+            break
+        try:
+            taken = receive(state, *record, store, out)
+        except Refused as bad:
+            yield refused(of, bad.number)
+            packets += 1
+            continue
+        yield Written(of, bytes(out[:taken.bytes]))
+        state = taken.state
+        fragments += taken.fragment_lost
+        elements += taken.element_lost
+    fragments += state.open > 0
+    if packets or fragments or elements:
+        yield Said("lost: %d packets passed over, %d open fragments, %d leading elements" % (packets, fragments, elements))
 
 
-def gathered(steps):
-    """G7. What a program writes in all, and what it says."""
-    steps = list(steps)
-    return b"".join(s for s in steps if type(s) is bytes), [s for s in steps if type(s) is tuple]
+def planlist_steps(source):
+    """G8 to G11. What `planlist` does, step by step."""
+    of = "unit 0"
+    head = source.read(7, "input")
+    length = int.from_bytes(head[3:7], "big")
+    good = len(head) == 7 and head[0] == 1 and length <= STORE_BYTES
+    unit = source.read(length, of) if good else b""
+    if not good or len(unit) < length or source.read(1, of):
+        yield Written(of, b"bad input\n")
+        return
+    obus, plan = [0] * (5 * LIST_RECORDS), [0] * (5 * LIST_RECORDS)
+    try:
+        count, packets = plan_unit(int.from_bytes(head[1:3], "big"), unit, obus, plan)
+    except Refused as bad:
+        yield Written(of, b"refused %d %d\n" % (bad.number, bad.offset))
+        return
+    yield Written(of, b"obus %d\npackets %d\n" % (count, packets))
+    for k in range(packets):
+        row = plan[5 * k:5 * k + 5]
+        yield Written(of, b"%d %d %d %d %d %d %02X\n" % (k, *row, get_aggregation_header(obus, plan, k)))
 
 
-def pack(data):
-    """What `pack` writes, and what it says."""
-    return gathered(pack_steps(data))
+STEPS = {"pack": pack_steps, "unpack": unpack_steps, "planlist": planlist_steps}
 
 
-def unpack(file):
-    """What `unpack` writes, and what it says."""
-    return gathered(unpack_steps(file))
+def run(name, data, fails=False, writes=None):
+    """G1, G14. What comes of a program's steps on an input, in order: what is written and what is said.
+
+    With `fails` the read behind the input's last byte fails; `writes` is how many writes succeed, None all of them.
+    """
+    done = 0
+    try:
+        for step in STEPS[name](Source(data, fails)):
+            if type(step) is Written:
+                if not step.data:                   # no bytes, no write
+                    continue
+                if done == writes:
+                    raise Failed(step.of, "write")
+                done += 1
+            yield step
+    except Failed as failed:
+        yield Said("%s: %s failed" % failed.args)
 
 
-def said_text(word, said):
-    """G7. What `pack` (word: unit) or `unpack` (word: record) puts on standard error."""
-    return "".join("%s: %s\n" % (index if index == "train" else "%s %d" % (word, index), what) for index, what in said)
+def step_bytes(step):
+    """What a step puts on its stream."""
+    return step.data if type(step) is Written else b"%s\n" % step.line.encode()
+
+
+def outputs(name, data):
+    """What a program puts on standard output and on standard error."""
+    steps = list(run(name, data))
+    return tuple(b"".join(step_bytes(step) for step in steps if type(step) is kind) for kind in (Written, Said))
 
 
 def planlist(data):
-    """G8 to G11. What `planlist` prints."""
-    length = int.from_bytes(data[3:7], "big")
-    if len(data) < 7 or data[0] != 1 or length > STORE_BYTES or len(data) != 7 + length:
-        return "bad input\n"
-    obus, plan = [0] * (5 * LIST_RECORDS), [0] * (5 * LIST_RECORDS)
-    try:
-        count, packets = plan_unit(int.from_bytes(data[1:3], "big"), data[7:], obus, plan)
-    except Refused as bad:
-        return "refused %d %d\n" % (bad.number, bad.offset)
-    lines = ["obus %d" % count, "packets %d" % packets]
-    for k in range(packets):
-        row = plan[5 * k:5 * k + 5]
-        lines.append("%d %d %d %d %d %d %02X" % (k, *row, get_aggregation_header(obus, plan, k)))
-    return "\n".join(lines) + "\n"
+    """What `planlist` prints."""
+    return outputs("planlist", data)[0].decode()
 
 
 def records_text(records):
@@ -772,6 +880,7 @@ def test_receiver(t):
     for obu, want in WIRE_ROWS:
         t.same("finished %s" % obu, answer(wire, bytes.fromhex(obu)), [18, 0] if want is None else bytes.fromhex(want))
     took = State(True, 41, 2)
+    # what is wanted: a refusal; or what is handed out, the new state, the store, and what is lost: a fragment, an element
     for what, state, number, data, lent, want in [
         ("12 store", State(True, 0, 5), 1, "", (4, 9), 12),
         ("12 limit", State(True, 0, FRAGMENT_LIMIT + 1), 1, "", (FRAGMENT_LIMIT + 2, 9), 12),
@@ -780,7 +889,7 @@ def test_receiver(t):
         ("13 over", FRESH, 0, "10" + "30" * PAYLOAD_LIMIT, (4, 9), 13),
         ("14 same", took, 41, "88", (4, 9), 14),
         ("14 half way", took, 41 + 32_768, "10 30", (4, 9), 14),
-        ("ahead", took, 41 + 32_767, "10 30", (4, 9), ("3200", State(True, 41 + 32_767, 0), "A1A2A3A4")),
+        ("ahead", took, 41 + 32_767, "10 30", (4, 9), ("3200", State(True, 41 + 32_767, 0), "A1A2A3A4", "F")),
         ("15", took, 42, "88", (4, 9), 15),
         ("16", took, 42, "20", (4, 9), 16),
         ("17", took, 42, "10", (4, 9), 17),
@@ -789,18 +898,21 @@ def test_receiver(t):
         ("19 store", FRESH, 0, "50 30 31 32 33 34", (4, 0), 19),
         ("19 before 20", FRESH, 0, "60 01 30 30 31 32 33 34", (4, 0), 19),
         ("20", FRESH, 0, "10 30", (4, 1), 20),
-        ("thrown away, unchecked", FRESH, 0, "90 34", (4, 9), ("", State(True, 0, 0), "A1A2A3A4")),
-        ("thrown away, not kept open", FRESH, 7, "D0 34", (4, 9), ("", State(True, 7, 0), "A1A2A3A4")),
-        ("left open", FRESH, 7, "50 30", (4, 9), ("", State(True, 7, 1), "30A2A3A4")),
-        ("dropped type left open", FRESH, 7, "50 12", (4, 9), ("", State(True, 7, 1), "12A2A3A4")),
-        ("joined", took, 42, "90 30", (4, 9), ("A302A230", State(True, 42, 0), "A1A2A3A4")),
-        ("joined and left open", took, 42, "D0 30", (4, 9), ("", State(True, 42, 3), "A1A230A4")),
-        ("not in step", took, 43, "90 30", (4, 9), ("", State(True, 43, 0), "A1A2A3A4")),
-        ("not in step, left open", took, 43, "E0 01 30 32", (4, 9), ("", State(True, 43, 1), "32A2A3A4")),
-        ("Z clear", took, 42, "10 30", (4, 9), ("3200", State(True, 42, 0), "A1A2A3A4")),
-        ("number wraps", State(True, 65_535, 2), 0, "90 30", (4, 9), ("A302A230", State(True, 0, 0), "A1A2A3A4")),
-        ("not begun", State(False, 41, 2), 42, "90 30", (4, 9), ("", State(True, 42, 0), "A1A2A3A4")),
-        ("reserved bits", FRESH, 0, "17 B1", (4, 9), ("B300", State(True, 0, 0), "A1A2A3A4")),
+        ("thrown away, unchecked", FRESH, 0, "90 34", (4, 9), ("", State(True, 0, 0), "A1A2A3A4", "E")),
+        ("thrown away, not kept open", FRESH, 7, "D0 34", (4, 9), ("", State(True, 7, 0), "A1A2A3A4", "E")),
+        ("left open", FRESH, 7, "50 30", (4, 9), ("", State(True, 7, 1), "30A2A3A4", "")),
+        ("dropped type left open", FRESH, 7, "50 12", (4, 9), ("", State(True, 7, 1), "12A2A3A4", "")),
+        ("joined", took, 42, "90 30", (4, 9), ("A302A230", State(True, 42, 0), "A1A2A3A4", "")),
+        ("joined and left open", took, 42, "D0 30", (4, 9), ("", State(True, 42, 3), "A1A230A4", "")),
+        ("not in step", took, 43, "90 30", (4, 9), ("", State(True, 43, 0), "A1A2A3A4", "FE")),
+        ("not in step, left open", took, 43, "E0 01 30 32", (4, 9), ("", State(True, 43, 1), "32A2A3A4", "FE")),
+        ("Z clear", took, 42, "10 30", (4, 9), ("3200", State(True, 42, 0), "A1A2A3A4", "F")),
+        ("Z clear, left open", took, 42, "50 30", (4, 9), ("", State(True, 42, 1), "30A2A3A4", "F")),
+        ("in step, nothing open", State(True, 41, 0), 42, "90 30", (4, 9), ("", State(True, 42, 0), "A1A2A3A4", "E")),
+        ("not in step, nothing open", State(True, 41, 0), 43, "10 30", (4, 9), ("3200", State(True, 43, 0), "A1A2A3A4", "")),
+        ("number wraps", State(True, 65_535, 2), 0, "90 30", (4, 9), ("A302A230", State(True, 0, 0), "A1A2A3A4", "")),
+        ("not begun", State(False, 41, 2), 42, "90 30", (4, 9), ("", State(True, 42, 0), "A1A2A3A4", "FE")),
+        ("reserved bits", FRESH, 0, "17 B1", (4, 9), ("B300", State(True, 0, 0), "A1A2A3A4", "")),
     ]:
         store, out = bytearray(b"\xA1\xA2\xA3\xA4" + bytes(lent[0] - 4)), bytearray(b"\xEE" * lent[1])
         before = bytes(store), bytes(out)
@@ -810,13 +922,14 @@ def test_receiver(t):
         else:
             handed = bytes.fromhex(want[0])
             t.same("receiver %s" % what, (got, store.hex().upper(), bytes(out)),
-                   ((want[1], len(handed)), want[2], handed + b"\xEE" * (lent[1] - len(handed))))
+                   ((want[1], len(handed), "F" in want[3], "E" in want[3]), want[2],
+                    handed + b"\xEE" * (lent[1] - len(handed))))
     got = receive(State(True, 0, FRAGMENT_LIMIT - 1), 1, b"\xD0\x30", bytearray(FRAGMENT_LIMIT + 1), bytearray())
-    t.same("open fragment at its limit", got, (State(True, 1, FRAGMENT_LIMIT), 0))
+    t.same("open fragment at its limit", got, (State(True, 1, FRAGMENT_LIMIT), 0, False, False))
     store, out = bytearray(9), bytearray(9)
-    state, _ = receive(FRESH, 41, bytes.fromhex("50 30 A1"), store, out)
-    _, count = receive(state, 42, bytes.fromhex("90 B2"), store, out)
-    t.same("41 of one train, 42 of another", out[:count].hex(), "3202a1b2")
+    first = receive(FRESH, 41, bytes.fromhex("50 30 A1"), store, out)
+    other = receive(first.state, 42, bytes.fromhex("90 B2"), store, out)
+    t.same("41 of one train, 42 of another", out[:other.bytes].hex(), "3202a1b2")
     t.same("19 limit", answer(receive, State(True, 0, FRAGMENT_LIMIT), 1, b"\xD0\x30", bytearray(FRAGMENT_LIMIT + 1),
                               bytearray()), [19, 0])
 
@@ -846,7 +959,7 @@ def test_delivery(t):
         for k in arrivals:
             out = bytearray(largest + 4 * max(mtus))
             try:
-                state, count = receive(state, (number + k) % 65_536, packets[k], store, out)
+                state, count, _, _ = receive(state, (number + k) % 65_536, packets[k], store, out)
                 came += out[:count]
             except Refused as bad:
                 refused += 1
@@ -873,37 +986,93 @@ def test_programs(t):
     t.same("planlist, 513 packets", planlist(b"\x01\x00\x03\x00\x00\x04\x02" + b"\x30" + bytes(1025)), "refused 9 0\n")
     units = bytes.fromhex("00 00 00 05 0A 01 7F 32 00") + bytes(4) + bytes.fromhex("00 00 00 01 30")
     train = bytes.fromhex("01 0005FFFF18087F 000400001030 000400011030")
-    t.same("pack", pack(bytes.fromhex("01 00 05 FF FF") + units), (train, []))
-    t.same("pack, head alone", pack(bytes.fromhex("01 00 05 FF FF")), (b"\x01", []))
-    t.same("pack, head cut", pack(bytes.fromhex("01 00 05 FF")), (b"", []))
-    t.same("pack, version", pack(bytes.fromhex("02 00 05 FF FF")), (b"", []))
-    t.same("pack, cut", pack(bytes.fromhex("01 00 05 FF FF") + units[:-1]), (train[:-6], [(2, "cut")]))
-    t.same("pack, length cut", pack(bytes.fromhex("01 00 05 FF FF") + units[:-2]), (train[:-6], [(2, "cut")]))
-    t.same("pack, store", pack(bytes.fromhex("01 FF FD 00 00 00 00 80 01") + b"\x30" * 32_769), (b"\x01", [(0, "cut")]))
-    t.same("pack, refused", pack(bytes.fromhex("01 00 05 00 00 00 00 00 01 32") + units), (b"\x01", [(0, 4)]))
-    t.same("pack, mtu", pack(bytes.fromhex("01 FF FE 00 00") + units), (b"\x01", [(0, 1)]))
-    t.same("unpack", unpack(train), (bytes.fromhex("0A 01 7F 32 00 32 00"), []))
-    for what, file, want in [
-        ("empty", "", (b"", [("train", 21)])), ("version", "02", (b"", [("train", 21)])), ("nothing", "01", (b"", [])),
-        ("length cut", "01 00", (b"", [(0, 22)])), ("record cut", "01 0004 0000 10", (b"", [(0, 22)])),
-        ("length 2", "01 0002", (b"", [(0, 23)])), ("length 0 alone", "01 0000", (b"", [(0, 23)])),
-        ("shortest record", "01 0003 0000 10", (b"", [(0, 17)])),
-        ("a repeat passed over", "01 00040007 1030 00040007 1030 00040008 1030", (b"\x32\x00" * 2, [(1, 14)])),
-        ("before the stop", "01 00040007 1030 0001", (b"\x32\x00", [(1, 23)])),
+    no_head = (b"", b"input: no head\n")
+    for what, data, want in [
+        ("whole", bytes.fromhex("01 00 05 FF FF") + units, (train, b"")),
+        ("head alone", bytes.fromhex("01 00 05 FF FF"), (b"\x01", b"")),
+        ("empty", b"", no_head), ("head cut", bytes.fromhex("01 00 05 FF"), no_head),
+        ("version", bytes.fromhex("02 00 05 FF FF"), no_head),
+        ("cut", bytes.fromhex("01 00 05 FF FF") + units[:-1], (train[:-6], b"unit 2: cut\n")),
+        ("length cut", bytes.fromhex("01 00 05 FF FF") + units[:-2], (train[:-6], b"unit 2: cut\n")),
+        ("store", bytes.fromhex("01 FF FD 00 00 00 00 80 01") + b"\x30" * 32_769, (b"\x01", b"unit 0: cut\n")),
+        ("refused", bytes.fromhex("01 00 05 00 00 00 00 00 01 32") + units,
+         (b"\x01", b"unit 0: 4 (an OBU's size field is missing)\n")),
+        ("mtu", bytes.fromhex("01 FF FE 00 00") + units, (b"\x01", b"unit 0: 1 (the mtu is over its limit)\n")),
     ]:
-        t.same("unpack, %s" % what, unpack(bytes.fromhex(file)), want)
+        t.same("pack, %s" % what, outputs("pack", data), want)
+    t.same("unpack", outputs("unpack", train), (bytes.fromhex("0A 01 7F 32 00 32 00"), b""))
+    cut, short = "22 (the train ends inside a record)", "23 (a record's length is below 3)"
+    lost = "lost: %d packets passed over, %d open fragments, %d leading elements"
+    for what, file, written, *said in [
+        ("empty", "", "", "train: 21 (no train of a known version)"),
+        ("version", "02", "", "train: 21 (no train of a known version)"),
+        ("nothing", "01", ""),
+        ("length cut", "01 00", "", "record 0: " + cut),
+        ("record cut", "01 0004 0000 10", "", "record 0: " + cut),
+        ("length 2", "01 0002", "", "record 0: " + short),
+        ("length 0 alone", "01 0000", "", "record 0: " + short),
+        ("shortest record", "01 0003 0000 10", "", "record 0: 17 (an element is empty, missing or past the end)", lost % (1, 0, 0)),
+        ("a repeat passed over", "01 00040007 1030 00040007 1030 00040008 1030", "3200 3200",
+         "record 1: 14 (the number is not ahead)", lost % (1, 0, 0)),
+        ("before the stop", "01 00040007 1030 0001", "3200", "record 1: " + short),
+        ("a fragment still open", "01 00040007 5030", "", lost % (0, 1, 0)),
+        ("a fragment open at the stop", "01 00040007 5030 00", "", "record 1: " + cut, lost % (0, 1, 0)),
+        ("a packet lost", "01 00040007 5030 00040009 9030 0004000A 1030", "3200", lost % (0, 1, 1)),
+        ("Z clear in step", "01 00040007 5030 00040008 1030", "3200", lost % (0, 1, 0)),
+        ("no beginning", "01 00040007 9030 00040008 D030 00040009 9030", "", lost % (0, 0, 3)),
+        ("refused in step, then joined", "01 00040007 5030 00040008 98A1 00040008 90A1", "3201A1",
+         "record 1: 15 (N and Z are both set)", lost % (1, 0, 0)),
+        ("all three, and the stop", "01 00040007 5030 00040007 5030 00040009 9030 0004000A 5030 0002", "",
+         "record 1: 14 (the number is not ahead)", "record 4: " + short, lost % (1, 2, 1)),
+    ]:
+        t.same("unpack, %s" % what, outputs("unpack", bytes.fromhex(file)),
+               (bytes.fromhex(written), "".join(line + "\n" for line in said).encode()))
     two = bytes.fromhex("00 00 00 28") + b"\x32\x26" + bytes(38) + bytes.fromhex("00 00 00 03 36 08 00")
-    t.same("unpack after pack", unpack(pack(bytes.fromhex("01 00 09 FF FE") + two)[0]),
-           (b"\x32\x26" + bytes(38) + bytes.fromhex("36 08 00"), []))
-    t.same("said of units", said_text("unit", [(2, "cut")]), "unit 2: cut\n")
-    t.same("said of records", said_text("record", [(1, 14), (3, 22)]), "record 1: 14\nrecord 3: 22\n")
-    t.same("said of a train", said_text("record", [("train", 21)]), "train: 21\n")
+    t.same("unpack after pack", outputs("unpack", outputs("pack", bytes.fromhex("01 00 09 FF FE") + two)[0]),
+           (b"\x32\x26" + bytes(38) + bytes.fromhex("36 08 00"), b""))
+    t.same("words of each refusal", (sorted(WORDS), len(set(WORDS.values()))), (list(range(1, 24)), 23))
+
+
+def test_failures(t):
+    """G14: a read that fails behind so many bytes, and a write that fails after so many; each ends the run."""
+    listed, units = bytes.fromhex("01 0005 00000005 0A017F3200"), bytes.fromhex("01 0005 FFFF 00000000 00000005 0A017F3200")
+    file = bytes.fromhex("01 00040007 5030 00040007 5030 00040008 9030 00040009 1030")
+    behind = b"record 1: 14 (the number is not ahead)\n"
+    for name, data, want in [
+        ("unpack", file[:0], b"train: read failed\n"), ("unpack", file[:1], b"record 0: read failed\n"),
+        ("unpack", file[:2], b"record 0: read failed\n"), ("unpack", file[:6], b"record 0: read failed\n"),
+        ("unpack", file[:7], b"record 1: read failed\n"), ("unpack", file[:13], behind + b"record 2: read failed\n"),
+        ("unpack", b"\2", b"train: 21 (no train of a known version)\n"),
+        ("pack", units[:0], b"input: read failed\n"), ("pack", b"\2", b"input: read failed\n"),
+        ("pack", units[:4], b"input: read failed\n"), ("pack", units[:5], b"\1unit 0: read failed\n"),
+        ("pack", units[:9], b"\1unit 1: read failed\n"), ("pack", units[:17], b"\1unit 1: read failed\n"),
+        ("planlist", listed[:0], b"input: read failed\n"), ("planlist", listed[:6], b"input: read failed\n"),
+        ("planlist", listed[:7], b"unit 0: read failed\n"), ("planlist", listed[:11], b"unit 0: read failed\n"),
+        ("planlist", listed, b"unit 0: read failed\n"), ("planlist", listed + b"\0", b"bad input\n"),
+        ("planlist", b"\2" + listed[1:7], b"bad input\n"),
+    ]:
+        t.same("%s, reading fails behind %s" % (name, data.hex()), b"".join(map(step_bytes, run(name, data, True))), want)
+    joined, rows = bytes.fromhex("320130"), [b"obus 2\npackets 2\n", b"0 0 1 0 2 2 18\n", b"1 1 1 0 1 1 10\n"]
+    first = bytes.fromhex("0005FFFF18087F")
+    for name, data, writes, want in [
+        ("unpack", file, 0, behind + b"record 2: write failed\n"),
+        ("unpack", file, 1, behind + joined + b"record 3: write failed\n"),
+        ("unpack", file[:7], 0, b"lost: 0 packets passed over, 1 open fragments, 0 leading elements\n"),
+        ("pack", units, 0, b"train: write failed\n"), ("pack", units, 1, b"\1unit 1: write failed\n"),
+        ("pack", units, 2, b"\1" + first + b"unit 1: write failed\n"), ("pack", units[:9], 1, b"\1"),
+        ("pack", units[:4], 0, b"input: no head\n"),
+        ("planlist", listed, 0, b"unit 0: write failed\n"), ("planlist", listed, 2, rows[0] + rows[1] + b"unit 0: write failed\n"),
+        ("planlist", listed, 3, b"".join(rows)), ("planlist", b"", 0, b"unit 0: write failed\n"),
+    ]:
+        t.same("%s, writing fails after %d, %s" % (name, writes, data.hex()),
+               b"".join(map(step_bytes, run(name, data, writes=writes))), want)
+    t.same("a failed write before a failed read", list(run("pack", units[:5], True, 0)), [Said("train: write failed")])
 
 
 def self_test():
     t = Test()
     for test in (test_fields, test_list, test_plan, test_law, test_vectors, test_left, test_header, test_elements, test_receiver,
-                 test_delivery, test_programs):
+                 test_delivery, test_programs, test_failures):
         test(t)
     print("%d rows, %d do not hold" % (t.rows, t.failed))
     return 1 if t.failed else 0
@@ -912,13 +1081,10 @@ def self_test():
 def main(words):
     if not words:
         return self_test()
-    if words in (["pack"], ["unpack"]):
-        written, said = (pack if words == ["pack"] else unpack)(sys.stdin.buffer.read())
+    if len(words) == 1 and words[0] in STEPS:
+        written, said = outputs(words[0], sys.stdin.buffer.read())
         sys.stdout.buffer.write(written)
-        sys.stderr.write(said_text("unit" if words == ["pack"] else "record", said))
-        return 0
-    if words == ["planlist"]:
-        sys.stdout.write(planlist(sys.stdin.buffer.read()))
+        sys.stderr.buffer.write(said)
         return 0
     if words == ["vectors"]:
         sys.stdout.write(vectors(sys.stdin.read()))

@@ -1,5 +1,5 @@
--- What crosses says all: 0 is success and nothing else, number and words tell the answers apart, and a state that is handed on is that
--- state. Assumes nothing.
+-- What crosses says all, but for what the receive call threw away: 0 is success and nothing else, number and words tell the answers
+-- apart, and a state that is handed on is that state. Assumes nothing.
 use mathlib.Core.Path.{_≡_, refl, ap, ap₂}
 use Prim.Native.Nat.{ℕ, _≤_, _<_}
 use native.Mathlib.Nat.{mod-eq-of-lt}

@@ -53,7 +53,7 @@ abbrev pub stateAfter : Answer Received → List ℕ → List ℕ
 stateAfter (given r) words = stateWords (r .state)
 stateAfter (refused n at) words = words
 
--- how many bytes are handed out
+-- how many bytes are handed out; what was thrown away does not cross
 abbrev pub receivedWords : Received → List ℕ
 receivedWords r = one (r .bytes)
 

@@ -3,3 +3,4 @@ pub mod Refusals
 pub mod Tests
 pub mod Bits
 pub mod Lists
+pub mod Words

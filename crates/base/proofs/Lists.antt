@@ -10,7 +10,7 @@ use lib.ListN.{length, getD, take, drop, set, length-append, length-take, length
 use lib.Seq.{take-nil, take-all, take-suc, take-add, length-take-le, getD-drop, take-at, drop-append-add, drop-drop, sets, sets-eq}
 use lib.Dec.{ltb}
 use borrow.Author.Tests.{ltb-true, ltb-false, lt-ltb, le-ltb}
-use Rattle.base.specs.Lists.{replaced, front, keep, All}
+use Rattle.base.specs.Lists.{replaced, front, keep, All, Put}
 use Rattle.base.proofs.Tests.{by-cond, split-on}
 
 module _ {A : Type 0} where
@@ -160,3 +160,21 @@ module _ {A B : Type 0} (f : A → List B) where
   unfolding flatMap
   flatMap-length n each [] = rw (zero-mul n)
   flatMap-length n each (a ∷ l) = length-append (f a) (flatMap f l) ∙ rw (each a, flatMap-length n each l, suc-mul (length l) n) (omega arith)
+
+-- ---- texts stored one after the other
+
+pub put-then : {l l₁ l₂ : List ℕ} {at at₁ at₂ : ℕ} {a b : List ℕ} → Put l l₁ at at₁ a → Put l₁ l₂ at₁ at₂ b → Put l l₂ at at₂ (a ++ b)
+put-then {l} {l₁} {l₂} {at} {at₁} {at₂} {a} {b} p q =
+    record {
+      cursor = omega (arith, p .cursor, q .cursor, length-append a b);
+      stored = q .stored
+          ∙ ap (λ (k : ℕ). sets l₁ k b) (p .cursor)
+          ∙ ap (λ (m : List ℕ). sets m (at + length a) b) (p .stored)
+          ∙ sym (sets-append l at a b);
+    }
+
+-- from the front on
+pub put-front : {l l′ : List ℕ} {end : ℕ} {a : List ℕ} → Put l l′ 0 end a → end ≤ length l → (end ≡ length a) × (l′ ≡ front a l)
+put-front {l} {l′} {end} {a} p h =
+    let e : end ≡ length a = omega (arith, p .cursor) in
+    (e, p .stored ∙ sets-eq a l 0 (omega arith) ∙ rw (zero-add (length a)))

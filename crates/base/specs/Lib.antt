@@ -1,3 +1,4 @@
 pub mod Refusals
+pub mod Words
 pub mod Answers
 pub mod Lists

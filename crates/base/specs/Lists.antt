@@ -2,7 +2,9 @@
 use Prim.Native.Nat.{ℕ, _+_}
 use mathlib.Core.List.{List, [], _∷_, _++_}
 use mathlib.Core.Bool.{Bool, cond}
+use mathlib.Core.Path.{_≡_}
 use lib.ListN.{length, take, drop}
+use lib.Seq.{sets}
 
 module _ {A : Type 0} where
   -- l with the elements from place `at` on replaced by those given
@@ -22,3 +24,8 @@ module _ {A : Type 0} where
   abbrev pub All : (A → Type 0) → List A → Type 0
   All P [] = Unit {0}
   All P (a ∷ l) = P a × All P l
+
+-- a text is stored from the cursor `at` on, and `end` is the cursor after it
+pub record Put (l l′ : List ℕ) (at end : ℕ) (text : List ℕ) : Type 0 where
+  pub cursor : end ≡ at + length text
+  pub stored : l′ ≡ sets l at text

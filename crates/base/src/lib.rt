@@ -1,11 +1,13 @@
-// What every other crate stands on: the refusals R1 to R23 by name, a record of five numbers stored in a lent flat list, the
-// smaller of two numbers, and bytes copied.
+// What every other crate stands on: the refusals R1 to R23 by name, with their numbers and words, a record of five numbers stored in
+// a lent flat list, the smaller of two numbers, and bytes copied.
 ghost use mathlib.Core.Path.{_≡_};
 ghost use Prim.Native.Nat.{_+_, _≤_, min};
 ghost use mathlib.Core.List.{[], _∷_};
 ghost use lib.ListN.{length, take, drop};
 ghost use lib.Seq.{sets};
+ghost use Rattle.base.specs.Lists.{Put};
 ghost use Rattle.base.specs.Refusals.{numberOf};
+ghost use Rattle.base.specs.Words.{lineFrom, wordsOf, wordsMost};
 
 pub enum Refusal {
     MtuOverLimit,
@@ -120,4 +122,69 @@ pub fn copy_bytes(from: &[u8], start: usize, n: usize, to: &mut [u8], at: usize)
         i += size;
     }
     at + n
+}
+
+// A text at the cursor `at`, and the cursor after it.
+pub fn put_text(text: &[u8], out: &mut [u8], at: usize) -> usize
+    requires { ⌜ at + length (now text) ≤ length (now out) ⌝ }
+    ensures { λ r. ⌜ Put (now (out .entry)) (now (out .exit)) at r (now (text .entry)) ⌝ }
+{
+    copy_each(text, 0, text.len(), out, at);
+    at + text.len()
+}
+
+// The words of the refusals, a line each; line 0 is nobody's.
+const WORDS: [u8; 766] = *b"\n\
+    the mtu is over its limit\n\
+    the unit is over its limit\n\
+    an OBU's extension byte is missing\n\
+    an OBU's size field is missing\n\
+    the unit ends inside a size field\n\
+    a size field is too long or its value too large\n\
+    an OBU runs past the end of the unit\n\
+    the OBU list is full\n\
+    the plan list is too short\n\
+    the output is too short for the payloads\n\
+    no such packet, or its record does not fit\n\
+    the state does not fit its store\n\
+    the payload is empty or over its limit\n\
+    the number is not ahead\n\
+    N and Z are both set\n\
+    an element's length field is bad or missing\n\
+    an element is empty, missing or past the end\n\
+    a finished OBU is not well formed\n\
+    the open fragment is too long\n\
+    the output is too short for the OBUs\n\
+    no train of a known version\n\
+    the train ends inside a record\n\
+    a record's length is below 3\n";
+
+// Line n of a text at the cursor `at`, and the cursor after it.
+fn put_line_of(text: &[u8], n: u32, out: &mut [u8], at: usize) -> usize
+    requires { ⌜ at + length (now text) ≤ length (now out) ⌝ }
+    ensures { λ r. ⌜ Put (now (out .entry)) (now (out .exit)) at r (lineFrom n 0 (now (text .entry))) ⌝ }
+{
+    let mut line: u64 = 0;
+    let mut to = at;
+    let mut i: usize = 0;
+    while i < text.len() {
+        let b = text[i];
+        if b == b'\n' {
+            line += 1;
+        } else if line == n as u64 {
+            out[to] = b;
+            to += 1;
+        }
+        i += 1;
+    }
+    to
+}
+
+// The words of a refusal, by its number, at the cursor `at`, and the cursor after them; none for a number that no refusal has.
+pub fn put_words(number: u32, out: &mut [u8], at: usize) -> usize
+    requires { ⌜ at + wordsMost ≤ length (now out) ⌝ }
+    ensures { λ r. ⌜ Put (now (out .entry)) (now (out .exit)) at r (wordsOf number) ⌝ }
+{
+    let text = WORDS;
+    put_line_of(&text, number, out, at)
 }

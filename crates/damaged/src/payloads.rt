@@ -52,6 +52,8 @@ fn print_receipt(receipt: Receipt, out: &[u8]) {
         Receipt::Received(got) => {
             show::bracketed(show::first(out, got.bytes));
             print_state(got.state);
+            show::spaced(got.fragment_lost as usize);
+            show::spaced(got.element_lost as usize);
         }
     }
 }

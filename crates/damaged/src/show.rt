@@ -45,17 +45,3 @@ pub fn bracketed(bytes: &[u8]) {
 pub fn first(bytes: &[u8], n: usize) -> &[u8] {
     if n <= bytes.len() { &bytes[..n] } else { bytes }
 }
-
-// The first n bytes from place `at` on; all from there, if there are fewer.
-pub fn part(bytes: &[u8], at: usize, n: usize) -> &[u8] {
-    if at <= bytes.len() {
-        first(&bytes[at..], n)
-    } else {
-        &bytes[..0]
-    }
-}
-
-// So many places further on; no run comes so far that this wraps.
-pub fn further(at: usize, n: usize) -> usize {
-    std::num::wrapping_add_usize(at, n)
-}

@@ -16,7 +16,7 @@ use Rattle.base.proofs.Lists.{flatMap-append, all-left, all-right}
 use Rattle.handing.specs.Handing.{fragmentLimit}
 use Rattle.handing.proofs.Lists.{front-length}
 use Rattle.receiver.specs.Packet.{Packet, packetOf}
-use Rattle.receiver.specs.Joining.{Held, fresh, isAhead, isInStep, ahead, joinable, handed, keptOpen}
+use Rattle.receiver.specs.Joining.{Held, fresh, isAhead, isInStep, ahead, joinable, lost, handed, keptOpen}
 use Rattle.receiver.specs.Call.{Taken, stateOf, answered, storeBy, outputBy}
 use Rattle.receiver.specs.declared.State.{State}
 use Rattle.receiver.proofs.Laws.{Holding, holding-fresh, held-again}
@@ -90,7 +90,7 @@ module _ (payloads : List (List ℕ)) (first : ℕ) (run : List Packet) (size mt
           let b : List ℕ = flatMap wireBytes (handed o p) in
           let w = wires-given (handed o p) f in
           let q = places (a .packet) l in
-          let x : calls payloads first (stateOf h) store (a ∷ rest) ≡ by-outcome (stateOf h) store a rest (given (record { held = held; bytes = b })) =
+          let x : calls payloads first (stateOf h) store (a ∷ rest) ≡ by-outcome (stateOf h) store a rest (given (record { held = held; bytes = b; lost = lost h n p })) =
           ap (by-outcome (stateOf h) store a rest)
           (call-taken h n payload store (a .output) s p (q .read) o b e j w (omega arith) (omega arith) (omega (arith, output-enough payload o p b (q .read) (omega arith) w, q .short))) in
           let m : length (front (keptOpen o p) store) ≡ length store = front-length (keptOpen o p) store (omega arith) in

@@ -13,7 +13,7 @@ use Rattle.element.proofs.Laws.{payload-fits}
 use Rattle.handing.specs.Handing.{fragmentLimit, wires}
 use Rattle.handing.proofs.Wires.{wires-each}
 use Rattle.receiver.specs.Packet.{Packet, packetBy, packetOf}
-use Rattle.receiver.specs.Joining.{Held, ahead, joinable, handed, keptOpen, next, out}
+use Rattle.receiver.specs.Joining.{Held, ahead, joinable, lost, handed, keptOpen, next, out}
 use Rattle.receiver.specs.Call.{stateOf, outcome}
 use Rattle.receiver.proofs.Laws.{taken-all, taken-behind, Holding, outcome-holding}
 use Rattle.lawful.specs.Train.{NonEmpty}
@@ -58,11 +58,11 @@ module _ (h : Held) (number : ℕ) (payload store output : List ℕ) (s : Holdin
   -- the first element may join o
   pub call-taken : (o bytes : List ℕ) → ahead h number ≡ true → joinable h number ≡ o → wires (handed o p) ≡ given bytes
       → length (keptOpen o p) ≤ length store → length (keptOpen o p) ≤ fragmentLimit → length bytes ≤ length output
-      → outcome (stateOf h) number payload store output ≡ given (record { held = record { begun = true; last = number; fragment = keptOpen o p }; bytes = bytes })
+      → outcome (stateOf h) number payload store output ≡ given (record { held = record { begun = true; last = number; fragment = keptOpen o p }; bytes = bytes; lost = lost h number p })
   unfolding next out
   call-taken o bytes a j w k l m =
       let n : next h number p ≡ record { begun = true; last = number; fragment = keptOpen o p } = rw (a, j) in
       let f : (next h number p) .fragment ≡ keptOpen o p = ap (λ (x : Held). x .fragment) n in
       outcome-holding h number payload store output s
       ∙ taken-all (length store) (length output) h number payload p read a bytes (rw (a, j) w) (rw f k) (rw f l) m
-      ∙ ap (λ (x : Held). given (record { held = x; bytes = bytes })) n
+      ∙ ap (λ (x : Held). given (record { held = x; bytes = bytes; lost = lost h number p })) n

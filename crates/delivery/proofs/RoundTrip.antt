@@ -23,7 +23,8 @@ use Rattle.packetizer.specs.Call.{mtuLimit}
 use Rattle.payloader.specs.Payload.{payloadsOf}
 use Rattle.payloader.specs.declared.Payloads.{Payloads}
 use Rattle.packing.specs.Pack.{packVersion, headWidth, Head, found, headIn, unitStore, listRecords, outputBytes, unitWidth, nextNumber, numbered, numberAfter, answerIn, Length, over, stated, cut, lengthIn, Units, withUnit, withLength, unitsFrom, unitsBy, packetsOf, trainBy}
-use Rattle.packing.specs.declared.PackHead.{PackHead}
+use Rattle.packing.specs.declared.input.PackHead.{PackHead}
+use Rattle.turns.specs.Orders.{nextCount}
 use Rattle.packing.proofs.Reading.{stated-within}
 use Rattle.packing.proofs.Units.{answer-is}
 use Rattle.packing.proofs.Runs.{numbered-append}
@@ -71,7 +72,7 @@ module _ (mtu : ℕ) where
   unfolding unitsFrom
   units-good i [] skip = tt
   units-good i (b ∷ l) (suc skip) = units-good i l skip
-  units-good i (b ∷ l) zero = with-length i (b ∷ l) (lengthIn (b ∷ l)) refl (λ span. unitsFrom mtu (i + 1) l (span - 1)) (λ n. units-good (i + 1) l (n - 1))
+  units-good i (b ∷ l) zero = with-length i (b ∷ l) (lengthIn (b ∷ l)) refl (λ span. unitsFrom mtu (nextCount i) l (span - 1)) (λ n. units-good (nextCount i) l (n - 1))
 
 -- ---- lists
 

@@ -16,7 +16,7 @@ use Rattle.packing.specs.Pack.{nextNumber, numbered}
 use Rattle.handing.specs.Handing.{fragmentLimit, wires}
 use Rattle.receiver.specs.Packet as apart
 use Rattle.receiver.specs.Packet.{packetOf}
-use Rattle.receiver.specs.Joining.{Held, ahead, next, out}
+use Rattle.receiver.specs.Joining.{Held, Lost, ahead, lost, next, out}
 use Rattle.receiver.specs.Call.{Taken, fitted, opened, taken, stateOf, outcome, answered, storeBy, outputBy}
 use Rattle.receiver.proofs.Laws.{Holding, outcome-holding, holding-next}
 use Rattle.unpacking.specs.Unpack.{fragmentStore, outputBytes, heldAfter, writtenFor, unpackedFrom}
@@ -55,12 +55,12 @@ Goes room (given t) = length (t .bytes) ≤ room
 Goes room (refused n at) = ⊥
 
 module _ (space room room′ : ℕ) where
-  fitted-room : (after : Held) (w : Answer (List ℕ)) → Goes room′ (fitted space room after w) → fitted space room′ after w ≡ fitted space room after w
-  fitted-room after (refused n at) g = refl
-  fitted-room after (given bytes) g = go (ltb space (length (after .fragment)) || ltb fragmentLimit (length (after .fragment))) (ltb room (length bytes)) g
+  fitted-room : (after : Held) (gone : Lost) (w : Answer (List ℕ)) → Goes room′ (fitted space room after gone w) → fitted space room′ after gone w ≡ fitted space room after gone w
+  fitted-room after gone (refused n at) g = refl
+  fitted-room after gone (given bytes) g = go (ltb space (length (after .fragment)) || ltb fragmentLimit (length (after .fragment))) (ltb room (length bytes)) g
     where
       all : Answer Taken
-      all = given (record { held = after; bytes = bytes })
+      all = given (record { held = after; bytes = bytes; lost = gone })
 
       go : (a b : Bool) → Goes room′ (cond a (refused 19 0) (cond b (refused 20 0) all)) → cond a (refused 19 0) (cond (ltb room′ (length bytes)) (refused 20 0) all) ≡ cond a (refused 19 0) (cond b (refused 20 0) all)
       go true b f = absurd f
@@ -68,7 +68,7 @@ module _ (space room room′ : ℕ) where
       go false false f = rw (le-ltb room′ (length bytes) f)
 
   opened-room : (h : Held) (n : ℕ) (x : Answer apart.Packet) → Goes room′ (opened space room h n x) → opened space room′ h n x ≡ opened space room h n x
-  opened-room h n (given p) g = fitted-room (next h n p) (wires (out h n p)) g
+  opened-room h n (given p) g = fitted-room (next h n p) (lost h n p) (wires (out h n p)) g
   opened-room h n (refused k at) g = refl
 
   taken-room : (h : Held) (n : ℕ) (payload : List ℕ) → Goes room′ (taken space room h n payload) → taken space room′ h n payload ≡ taken space room h n payload

@@ -7,7 +7,7 @@ use Rattle.obu.specs.Unit.{obusOf}
 use Rattle.obu.specs.Wire.{wireOf}
 use Rattle.packetizer.specs.Plan.{leastMtu}
 use Rattle.packing.specs.Pack.{headIn, found, unitsIn, packOf}
-use Rattle.packing.specs.declared.PackHead.{PackHead}
+use Rattle.packing.specs.declared.input.PackHead.{PackHead}
 use Rattle.unpacking.specs.Unpack.{unpackOf}
 
 -- the `wire` bytes (O12) of all kept OBUs of some units

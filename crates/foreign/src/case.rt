@@ -1,4 +1,4 @@
-// A case: packets given to the receiver, and its answer, its bytes and its state compared with what is expected.
+// A case: packets given to the receiver, and its answer, its bytes, its state and what it threw away compared with what is expected.
 use base::Refusal;
 use libc::STDOUT_FILENO;
 use receiver::Receipt;
@@ -49,12 +49,18 @@ fn first(bytes: &[u8], n: usize) -> &[u8] {
     if n <= bytes.len() { &bytes[..n] } else { bytes }
 }
 
-// What came instead: the bytes that went out, and how many are open.
+// What came instead: the bytes that went out, how many are open, and what was thrown away.
 fn print_taken(got: Received, out: &[u8]) {
     print(b" out ");
     print_bytes(first(out, got.bytes));
     print(b" open ");
     print_number(got.state.open);
+    if got.fragment_lost {
+        print(b" fragment lost");
+    }
+    if got.element_lost {
+        print(b" element lost");
+    }
 }
 
 fn print_refused(refusal: Refusal) {
@@ -72,11 +78,33 @@ fn same_state(state: State, number: u16, open: usize) -> bool {
     false
 }
 
-// A packet that is taken: these bytes go out, and so many are open after it.
+// This was thrown away: an open fragment, an element.
+fn same_losses(got: Received, fragment: bool, element: bool) -> bool {
+    if got.fragment_lost == fragment {
+        return got.element_lost == element;
+    }
+    false
+}
+
+// A packet that is taken and throws nothing away: these bytes go out, and so many are open after it.
 pub fn takes(
     state: State,
     number: u16,
     payload: &[u8],
+    bytes: &[u8],
+    open: usize,
+    store: &mut [u8],
+) -> State {
+    loses(state, number, payload, false, false, bytes, open, store)
+}
+
+// The same, and this is thrown away: an open fragment, an element.
+pub fn loses(
+    state: State,
+    number: u16,
+    payload: &[u8],
+    fragment: bool,
+    element: bool,
     bytes: &[u8],
     open: usize,
     store: &mut [u8],
@@ -90,9 +118,11 @@ pub fn takes(
         Receipt::Received(got) => {
             let next = got.state;
             if same_state(next, number, open) {
-                if check::same(first(&out, got.bytes), bytes) {
-                    print(b" ok");
-                    return next;
+                if same_losses(got, fragment, element) {
+                    if check::same(first(&out, got.bytes), bytes) {
+                        print(b" ok");
+                        return next;
+                    }
                 }
             }
             print_taken(got, &out);

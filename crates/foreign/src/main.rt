@@ -1,7 +1,8 @@
 // Payloads as other senders may make them, given to the receiver: what comes out is compared with bytes worked out by hand.
 //
 // Each case has a line: for each of its packets `ok`, or what came instead. A comment takes the payload apart: the aggregation
-// header, then element by element the length field, where there is one, and the OBU's bytes; `Out` is what the rules make of them.
+// header, then element by element the length field, where there is one, and the OBU's bytes; `Out` is what the rules make of them,
+// and `Lost` what is thrown away, where anything is.
 mod case;
 
 // Elements that all have a length field (E2).
@@ -221,14 +222,16 @@ fn three_packets() {
 fn lost_packet() {
     // 50: Y, W 1. To the end: 30 A1, open.
     // 80: Z, W 0, two numbers on. 02: A2 A3, thrown away. 02: 20 C1.
-    // Out: nothing; then 22 01 C1.
+    // Out: nothing; then 22 01 C1. Lost: nothing; then fragment and element.
     let mut store = [0u8; 16];
     let state = case::begin(29);
     let next = case::takes(state, case::FIRST, b"\x50\x30\xA1", b"", 2, &mut store);
-    case::takes(
+    case::loses(
         next,
         1,
         b"\x80\x02\xA2\xA3\x02\x20\xC1",
+        true,
+        true,
         b"\x22\x01\xC1",
         0,
         &mut store,
@@ -239,11 +242,20 @@ fn lost_packet() {
 // The first packet of an OBU is lost, and so is what comes of it (V6, V7).
 fn lost_first() {
     // D0: Z, Y, W 1. To the end: A2, thrown away. 90: Z, W 1. To the end: A3, thrown away.
-    // Out: nothing twice.
+    // Out: nothing twice. Lost: the element twice.
     let mut store = [0u8; 16];
     let state = case::begin(30);
-    let next = case::takes(state, case::FIRST, b"\xD0\xA2", b"", 0, &mut store);
-    case::takes(next, 0, b"\x90\xA3", b"", 0, &mut store);
+    let next = case::loses(
+        state,
+        case::FIRST,
+        b"\xD0\xA2",
+        false,
+        true,
+        b"",
+        0,
+        &mut store,
+    );
+    case::loses(next, 0, b"\x90\xA3", false, true, b"", 0, &mut store);
     case::end();
 }
 
@@ -251,11 +263,11 @@ fn lost_first() {
 fn lost_last() {
     // 50: Y, W 1. To the end: 30 A1, open. 50: Y, W 1, two numbers on. To the end: 28 B1, open.
     // 90: Z, W 1. To the end: B2.
-    // Out: nothing twice; then 2A 02 B1 B2.
+    // Out: nothing twice; then 2A 02 B1 B2. Lost: nothing; the fragment; nothing.
     let mut store = [0u8; 16];
     let state = case::begin(31);
     let a = case::takes(state, case::FIRST, b"\x50\x30\xA1", b"", 2, &mut store);
-    let b = case::takes(a, 1, b"\x50\x28\xB1", b"", 2, &mut store);
+    let b = case::loses(a, 1, b"\x50\x28\xB1", true, false, b"", 2, &mut store);
     case::takes(b, 2, b"\x90\xB2", b"\x2A\x02\xB1\xB2", 0, &mut store);
     case::end();
 }
@@ -280,6 +292,40 @@ fn again() {
     case::end();
 }
 
+// A packet in step that continues nothing, while a fragment is open (V5); the end of an OBU to a fresh receiver (V6, V10).
+fn nothing_joined() {
+    // 50: Y, W 1. To the end: 30 A1 A2, open. 10: W 1. To the end: 32 00.
+    // Out: nothing; then 32 00. Lost: nothing; then the fragment.
+    let mut store = [0u8; 16];
+    let state = case::begin(33);
+    let next = case::takes(state, case::FIRST, b"\x50\x30\xA1\xA2", b"", 3, &mut store);
+    case::loses(
+        next,
+        0,
+        b"\x10\x32\x00",
+        true,
+        false,
+        b"\x32\x00",
+        0,
+        &mut store,
+    );
+    case::end();
+    // 90: Z, W 1. To the end: 34, thrown away.
+    // Out: nothing. Lost: the element.
+    let fresh = case::begin(34);
+    case::loses(
+        fresh,
+        case::FIRST,
+        b"\x90\x34",
+        false,
+        true,
+        b"",
+        0,
+        &mut store,
+    );
+    case::end();
+}
+
 fn main() {
     all_with_length();
     padded_lengths();
@@ -294,4 +340,5 @@ fn main() {
     lost_first();
     lost_last();
     again();
+    nothing_joined();
 }

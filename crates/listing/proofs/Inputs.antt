@@ -1,14 +1,14 @@
 -- The head of an input, by the tests that the code makes. Assumes nothing.
-use mathlib.Core.Path.{_≡_, refl}
+use mathlib.Core.Path.{_≡_, refl, ap}
 use Prim.Native.Nat.{ℕ, _≤_, _<_}
 use native.Mathlib.Omega.{arith}
-use mathlib.Core.List.{List}
-use mathlib.Core.Bool.{true, false, not, _||_}
-use lib.ListN.{length, getD}
+use mathlib.Core.List.{List, [], _∷_}
+use mathlib.Core.Bool.{not, _||_}
+use lib.ListN.{length, getD, take}
 use lib.Dec.{ltb, eqb}
 use borrow.Author.Tests.{lt-ltb, le-ltb, ltb-false, eq-eqb, ne-eqb}
 use Rattle.base.proofs.Tests.{by-cond, or-second}
-use Rattle.listing.specs.Input.{version, headBytes, unitStore, Head, bad, states, mtuIn, lengthIn, isBad, headOf, lengthBy, badInput, good, inputRead}
+use Rattle.listing.specs.Input.{version, headBytes, unitStore, Head, bad, states, mtuIn, lengthIn, isBad, headOf}
 use Rattle.listing.specs.declared.Stated.{Stated}
 
 pub head-cut : (l : List ℕ) → length l < headBytes → bad ≡ headOf l
@@ -30,31 +30,27 @@ module _ (l : List ℕ) (h : headBytes ≤ length l) where
     head-good k = rw (le-ltb (length l) headBytes h, eq-eqb (getD l 0 0) version e, le-ltb unitStore (lengthIn l) k)
 
 -- a stated length fits the store
-abbrev Fits : Head → Type 0
-Fits x = lengthBy x ≤ unitStore
+abbrev Fits : Stated → Head → Type 0
+Fits s x = states s ≡ x → s .length ≤ unitStore
 
-pub head-fits : (l : List ℕ) → lengthBy (headOf l) ≤ unitStore
+pub head-fits : (l : List ℕ) (s : Stated) → states s ≡ headOf l → s .length ≤ unitStore
 unfolding headOf
-head-fits l =
-    by-cond Fits (isBad l) _ _ (λ t. omega arith)
-    (λ t. ltb-false unitStore (lengthIn l) (or-second (ltb (length l) headBytes || not (eqb (getD l 0 0) version)) (ltb unitStore (lengthIn l)) t))
+head-fits l s =
+    by-cond (Fits s) (isBad l) _ _
+    (λ t e. let z : _≡_ {A = ℕ} 0 1 = cc in absurd (omega arith))
+    (λ t e.
+    let same : s ≡ record { mtu = mtuIn l; length = lengthIn l } = cc in
+    let most : lengthIn l ≤ unitStore = ltb-false unitStore (lengthIn l) (or-second (ltb (length l) headBytes || not (eqb (getD l 0 0) version)) (ltb unitStore (lengthIn l)) t) in
+    omega (arith, ap (λ (x : Stated). x .length) same))
 
--- ---- the input, by what was read of it
-
-pub input-more : (head : List ℕ) (came : ℕ) → badInput ≡ inputRead head came true
-unfolding inputRead
-input-more head came = refl
-
-module _ (head : List ℕ) (came : ℕ) where
-  pub input-bad : bad ≡ headOf head → badInput ≡ inputRead head came false
-  unfolding inputRead
-  input-bad e = rw (← e)
-
-  module _ (s : Stated) (e : states s ≡ headOf head) where
-    pub input-good : came ≡ s .length → good (s .mtu) ≡ inputRead head came false
-    unfolding inputRead
-    input-good h = rw (← e, eq-eqb came (s .length) h)
-
-    pub input-other : (came ≡ s .length → ⊥) → badInput ≡ inputRead head came false
-    unfolding inputRead
-    input-other h = rw (← e, ne-eqb came (s .length) h)
+-- the head is decided by its bytes
+pub head-front : (l : List ℕ) → headOf (take headBytes l) ≡ headOf l
+unfolding headOf
+head-front [] = refl
+head-front (a ∷ []) = refl
+head-front (a ∷ b ∷ []) = refl
+head-front (a ∷ b ∷ c ∷ []) = refl
+head-front (a ∷ b ∷ c ∷ d ∷ []) = refl
+head-front (a ∷ b ∷ c ∷ d ∷ e ∷ []) = refl
+head-front (a ∷ b ∷ c ∷ d ∷ e ∷ f ∷ []) = refl
+head-front (a ∷ b ∷ c ∷ d ∷ e ∷ f ∷ g ∷ l) = rw (le-ltb (length (a ∷ b ∷ c ∷ d ∷ e ∷ f ∷ g ∷ l)) headBytes (omega arith))

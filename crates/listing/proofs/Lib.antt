@@ -1,4 +1,5 @@
 pub mod Inputs
-pub mod Whole
 pub mod Lines
+pub mod Turning
+pub mod Runs
 pub mod Rows

@@ -1,86 +1,113 @@
 -- The lines of a unit's plan, read from the lists that the plan call leaves. Assumes nothing.
-use mathlib.Core.Path.{_≡_, sym, ap, ap₂, _∙_}
-use Prim.Native.Nat.{ℕ, zero, suc, _+_, _≤_, _<_}
-use native.Mathlib.Nat.{add-zero, zero-add}
+use mathlib.Core.Path.{_≡_, refl, sym, ap, ap₂, _∙_}
+use Prim.Native.Nat.{ℕ, suc, _+_, _*_, _≤_, _<_}
 use native.Mathlib.Omega.{arith}
-use mathlib.Core.List.{List, [], _∷_, _++_}
-use lib.ListN.{length, getD, length-append, length-map, List·getD-append}
-use Rattle.base.specs.Answers.{given}
-use Rattle.obu.specs.Unit.{obusOf}
+use mathlib.Core.List.{List, [], _∷_}
+use lib.ListN.{length, getD, take, length-take, length-replicate}
+use Rattle.base.specs.Answers.{Answer, given, refused}
+use Rattle.obu.specs.Unit.{unitLimit, obuNumbers, obusOf}
 use Rattle.obu.specs.declared.Obu.{Obu}
+use Rattle.obu.proofs.Scans as scans
+use Rattle.packetizer.specs.Plan.{planNumbers}
 use Rattle.packetizer.specs.Call.{unitPlan, planAnswer, obusAfter, planAfter}
 use Rattle.packetizer.specs.declared.PacketMetadata.{PacketMetadata}
 use Rattle.packetizer.specs.declared.Planned.{Planned}
+use Rattle.packetizer.proofs.Stores as stores
 use Rattle.aggregation.specs.Header.{noPacket, byteOf, headerOf}
 use Rattle.aggregation.specs.Flat.{obusIn, packetsIn}
-use Rattle.aggregation.proofs.Flat.{obus-back, packets-back}
-use Rattle.aggregation.proofs.Headers.{header-given, header-lent}
-use Rattle.payloader.proofs.Packets.{packet-sound}
-use Rattle.payloader.proofs.Calls.{Accepted, accepted}
-use Rattle.listing.specs.Row.{rowBy, rowOf}
-use Rattle.listing.specs.Listing.{rowsFrom, rowsOf}
-use Rattle.listing.specs.declared.Row.{Row}
+use Rattle.payloader.proofs.Units.{obus-flat, packets-flat}
+use Rattle.payloader.proofs.Packets.{packet-header}
+use Rattle.payloader.proofs.Calls.{accepted, obus-part, plan-part}
+use Rattle.turns.specs.Orders.{asks}
+use Rattle.listing.specs.Input.{unitStore, listNumbers}
+use Rattle.listing.specs.Row.{rowOf}
+use Rattle.listing.specs.Listing.{rowsFrom, listedBy, unitListing, badText, refusedText, countsText}
+use Rattle.listing.specs.Steps.{unitIn, prints, counted, listingTold, furtherTold, Filled}
+use Rattle.listing.specs.declared.Place.{Place}
 
-given-one : (a b : ℕ) → given a ≡ given b → a ≡ b
-given-one a b e = cc
+-- ---- from lists that hold a plan
 
--- a line, its header apart
-abbrev rowWith : ℕ → PacketMetadata → ℕ → Row
-rowWith k p header =
-    record {
-      packet = k;
-      «first_obu» = p .«first_obu_index»;
-      elements = p .«num_obu_elements»;
-      «first_offset» = p .«first_obu_offset»;
-      «last_size» = p .«last_obu_size»;
-      «packet_size» = p .«packet_size»;
-      header = header;
-    }
+module _ {p : Place} {unit obus plan : List ℕ} (f : Filled p unit obus plan) where
+  pub filled-obus : p .obus * obuNumbers ≤ length obus
+  filled-obus = omega (arith, ap length (f .obus-is), length-take (p .obus * obuNumbers) obus, scans.flat-length (obusOf (unitIn p unit)), f .obus-are)
 
--- a packet whose OBUs are there has its header, with further records after both lists too
-headed :
-    (os more : List Obu) (ps more′ : List PacketMetadata) (k : ℕ) → k < length ps
-    → 1 ≤ getD ps k noPacket .«num_obu_elements»
-    → getD ps k noPacket .«first_obu_index» + getD ps k noPacket .«num_obu_elements» ≤ length os
-    → headerOf (os ++ more) (ps ++ more′) k ≡ given (byteOf (os ++ more) (getD (ps ++ more′) k noPacket) k)
-headed os more ps more′ k h some whole =
-    let e : getD (ps ++ more′) k noPacket ≡ getD ps k noPacket = List·getD-append ps more′ noPacket k h in
-    header-given (os ++ more) (ps ++ more′) k (omega (arith, length-append ps more′)) (rw e some) (rw (e, length-append) (omega arith))
+  pub filled-plan : p .packets * planNumbers ≤ length plan
+  filled-plan = omega (arith, ap length (f .plan-is), length-take (p .packets * planNumbers) plan, stores.flat-length (unitPlan (p .mtu) (unitIn p unit)), f .packets-are)
 
-module _ (mtu : ℕ) (unit obus plan : List ℕ) (p : Planned) (e : given p ≡ planAnswer mtu unit obus plan) where
-  known : Accepted mtu unit obus plan p
-  known = accepted mtu unit obus plan p e
+  -- the records in the filled parts
+  obus-in : obusIn (take (p .obus * obuNumbers) obus) ≡ obusOf (unitIn p unit)
+  obus-in = ap obusIn (f .obus-is) ∙ obus-flat (obusOf (unitIn p unit))
 
-  module _ (k : ℕ) (h : k < p .packets) where
-    there : k < length (unitPlan mtu unit)
-    there = omega (arith, known .packets)
+  packets-in : packetsIn (take (p .packets * planNumbers) plan) ≡ unitPlan (p .mtu) (unitIn p unit)
+  packets-in = ap packetsIn (f .plan-is) ∙ packets-flat (unitPlan (p .mtu) (unitIn p unit))
 
-    inside : getD (unitPlan mtu unit) k noPacket .«first_obu_index» + getD (unitPlan mtu unit) k noPacket .«num_obu_elements» ≤ length (obusOf unit)
-    inside = omega (arith, packet-sound mtu unit k (known .small) there .inside, length-map (obusOf unit) (λ (o : Obu). o .size))
+  module _ {k : ℕ} (h : k < p .packets) where
+    -- a packet has its header
+    pub filled-headed :
+        headerOf (obusIn (take (p .obus * obuNumbers) obus)) (packetsIn (take (p .packets * planNumbers) plan)) k
+        ≡ given (byteOf (obusIn (take (p .obus * obuNumbers) obus)) (getD (packetsIn (take (p .packets * planNumbers) plan)) k noPacket) k)
+    filled-headed =
+        let small : length (unitIn p unit) ≤ unitLimit = omega (arith, length-take (p .length) unit, f .within) in
+        let there : k < length (unitPlan (p .mtu) (unitIn p unit)) = omega (arith, f .packets-are) in
+        rw (f .obus-is, f .plan-is) (packet-header (p .mtu) (unitIn p unit) k small there
+        ∙ ap₂ (λ (os : List Obu) (ps : List PacketMetadata). given (byteOf os (getD ps k noPacket) k)) (sym (obus-flat (obusOf (unitIn p unit)))) (sym (packets-flat (unitPlan (p .mtu) (unitIn p unit)))))
 
-    -- the packets that the plan call leaves have headers
-    pub lent-headed :
-        headerOf (obusIn (obusAfter mtu unit obus)) (packetsIn (planAfter mtu unit obus plan)) k
-        ≡ given (byteOf (obusIn (obusAfter mtu unit obus)) (getD (packetsIn (planAfter mtu unit obus plan)) k noPacket) k)
-    lent-headed =
-        rw (known .obus-is, known .plan-is, obus-back, packets-back)
-        (headed (obusOf unit) _ (unitPlan mtu unit) _ k there (packet-sound mtu unit k (known .small) there .some) inside)
+    -- and its line is that of the unit's plan
+    pub filled-row :
+        rowOf (obusIn (take (p .obus * obuNumbers) obus)) (packetsIn (take (p .packets * planNumbers) plan)) k
+        ≡ rowOf (obusOf (unitIn p unit)) (unitPlan (p .mtu) (unitIn p unit)) k
+    filled-row = ap₂ (λ (os : List Obu) (ps : List PacketMetadata). rowOf os ps k) obus-in packets-in
 
-    -- and their lines are those of the unit's plan
-    pub lent-row : rowOf (obusIn (obusAfter mtu unit obus)) (packetsIn (planAfter mtu unit obus plan)) k ≡ rowOf (obusOf unit) (unitPlan mtu unit) k
-    lent-row =
-        let q : getD (packetsIn (planAfter mtu unit obus plan)) k noPacket ≡ getD (unitPlan mtu unit) k noPacket =
-        rw (known .plan-is, packets-back) (List·getD-append (unitPlan mtu unit) _ noPacket k there) in
-        let g : headerOf (obusIn (obusAfter mtu unit obus)) (packetsIn (planAfter mtu unit obus plan)) k ≡ given (byteOf (obusOf unit) (getD (unitPlan mtu unit) k noPacket) k) =
-        rw (known .obus-is, known .plan-is) (header-lent (obusOf unit) (unitPlan mtu unit) k there (packet-sound mtu unit k (known .small) there .some) inside _ _) in
-        ap₂ (rowWith k) q (given-one _ _ (sym lent-headed ∙ g))
+-- ---- after the plan call
 
-row-from : (os : List Obu) (i : ℕ) (ps : List PacketMetadata) (k : ℕ) (d : Row) → k < length ps → getD (rowsFrom os i ps) k d ≡ rowBy os (getD ps k noPacket) (i + k)
+pub rows-count : (os : List Obu) (k : ℕ) (ps : List PacketMetadata) → length (rowsFrom os k ps) ≡ length ps
 unfolding rowsFrom
-row-from os i [] k d h = absurd (omega arith)
-row-from os i (p ∷ ps) zero d h = rw (add-zero i)
-row-from os i (p ∷ ps) (suc k) d h = row-from os (i + 1) ps k d (omega arith) ∙ ap (rowBy os (getD ps k noPacket)) (omega arith)
+rows-count os k [] = refl
+rows-count os k (p ∷ ps) = ap suc (rows-count os (k + 1) ps)
 
--- so the lines that are printed are those that the rules list
-pub row-listed : (mtu : ℕ) (unit : List ℕ) (k : ℕ) (d : Row) → k < length (unitPlan mtu unit) → getD (rowsOf mtu unit) k d ≡ rowOf (obusOf unit) (unitPlan mtu unit) k
-row-listed mtu unit k d h = row-from (obusOf unit) 0 (unitPlan mtu unit) k d h ∙ rw (zero-add k)
+-- its answer goes by how much the lists hold
+answer-same : (mtu : ℕ) (unit obus obus′ plan plan′ : List ℕ) → length obus ≡ length obus′ → length plan ≡ length plan′
+    → planAnswer mtu unit obus plan ≡ planAnswer mtu unit obus′ plan′
+unfolding planAnswer
+answer-same mtu unit obus obus′ plan plan′ o l = rw (o, l)
+
+told-none : (p : Place) (got unit : List ℕ) → length got ≤ 0 → furtherTold p got unit ≡ listingTold p (unitListing (p .mtu) (unitIn p unit))
+told-none p [] unit h = refl
+told-none p (b ∷ l) unit h = absurd (omega arith)
+
+module _ (p : Place) (unit obus plan : List ℕ) (o : length obus ≡ listNumbers) (l : length plan ≡ listNumbers) where
+  listing-is : {a : Answer Planned} → a ≡ planAnswer (p .mtu) (unitIn p unit) obus plan → unitListing (p .mtu) (unitIn p unit) ≡ listedBy (p .mtu) (unitIn p unit) a
+  unfolding unitListing
+  listing-is e =
+      ap (listedBy (p .mtu) (unitIn p unit))
+      (answer-same (p .mtu) (unitIn p unit) _ obus _ plan (length-replicate {A = ℕ} listNumbers 0 ∙ sym o) (length-replicate {A = ℕ} listNumbers 0 ∙ sym l) ∙ sym e)
+
+  -- what is told where no byte is left over
+  module _ (got : List ℕ) (none : length got ≤ 0) where
+    pub told-refused : {n at : ℕ} → refused n at ≡ planAnswer (p .mtu) (unitIn p unit) obus plan → furtherTold p got unit ≡ prints p (refusedText n at)
+    told-refused e = told-none p got unit none ∙ ap (listingTold p) (listing-is e)
+
+    pub told-counts : {q : Planned} → given q ≡ planAnswer (p .mtu) (unitIn p unit) obus plan
+        → furtherTold p got unit ≡ asks (counted p (q .obus) (q .packets)) (countsText (q .obus) (q .packets)) 0
+    told-counts {q} e =
+        told-none p got unit none ∙ ap (listingTold p) (listing-is e)
+        ∙ ap (λ (n : ℕ). asks (counted p (q .obus) n) (countsText (q .obus) n) 0)
+        (rows-count (obusOf (unitIn p unit)) 0 (unitPlan (p .mtu) (unitIn p unit)) ∙ sym (accepted _ _ _ _ q e .packets))
+
+-- a byte is left over
+pub told-more : (p : Place) (got unit : List ℕ) → 0 < length got → furtherTold p got unit ≡ prints p badText
+told-more p [] unit h = absurd (omega arith)
+told-more p (b ∷ l) unit h = refl
+
+-- the lists hold the plan
+pub planned-filled : (p : Place) (unit obus plan : List ℕ) (q : Planned) → given q ≡ planAnswer (p .mtu) (unitIn p unit) obus plan → p .length ≤ unitStore
+    → Filled (counted p (q .obus) (q .packets)) unit (obusAfter (p .mtu) (unitIn p unit) obus) (planAfter (p .mtu) (unitIn p unit) obus plan)
+planned-filled p unit obus plan q e h =
+    let known = accepted _ _ _ _ q e in
+    record {
+      within = h;
+      obus-are = known .listed;
+      packets-are = known .packets;
+      obus-is = rw (known .obus-is, known .listed) (obus-part (obusOf (unitIn p unit)) obus);
+      plan-is = rw (known .plan-is, known .packets) (plan-part (unitPlan (p .mtu) (unitIn p unit)) plan);
+    }

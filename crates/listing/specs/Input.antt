@@ -1,9 +1,10 @@
 -- The input of `planlist` (G1, G8, L12, L13).
-use Prim.Native.Nat.{ℕ, _+_}
+use Prim.Native.Nat.{ℕ, _+_, _*_}
 use mathlib.Core.List.{List}
 use mathlib.Core.Bool.{Bool, cond, not, _||_}
 use lib.ListN.{length, getD, take, drop}
 use lib.Dec.{ltb, eqb}
+use Rattle.packetizer.specs.Plan.{planNumbers}
 use Rattle.train.specs.Bytes.{valueOf}
 use Rattle.listing.specs.declared.Stated.{Stated}
 
@@ -26,6 +27,10 @@ unitStore = 32768
 abbrev pub listRecords : ℕ
 listRecords = 512
 
+-- the numbers of such a list: a record of either has five
+abbrev pub listNumbers : ℕ
+listNumbers = listRecords * planNumbers
+
 -- what a head states: an mtu, and how long the unit is
 pub data Head : Type 0 where
   bad : Head
@@ -44,11 +49,6 @@ isBad l = ltb (length l) headBytes || not (eqb (getD l 0 0) version) || ltb unit
 unfoldable pub headOf : List ℕ → Head
 headOf l = cond (isBad l) bad (states (record { mtu = mtuIn l; length = lengthIn l }))
 
--- how long the unit is, 0 with a bad head
-abbrev pub lengthBy : Head → ℕ
-lengthBy bad = 0
-lengthBy (states s) = s .length
-
 -- the mtu, if the input is good
 pub data Input : Type 0 where
   badInput : Input
@@ -62,7 +62,3 @@ inputBy n (states s) = cond (eqb n (s .length)) (good (s .mtu)) badInput
 -- an input as a whole: nothing is missing, and nothing is left over
 unfoldable pub inputOf : List ℕ → Input
 inputOf l = inputBy (length (drop headBytes l)) (headOf l)
-
--- by the bytes read of its head, by how many came of the unit, and by whether a further byte came
-unfoldable pub inputRead : List ℕ → ℕ → Bool → Input
-inputRead head came more = cond more badInput (inputBy came (headOf head))

@@ -2,3 +2,5 @@ pub mod Input
 pub mod Row
 pub mod Paper
 pub mod Listing
+pub mod Steps
+pub mod Run

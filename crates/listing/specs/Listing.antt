@@ -1,16 +1,17 @@
--- What `planlist` prints, as the numbers of its lines (G8 to G11).
-use Prim.Native.Nat.{ℕ, _+_, _*_}
-use mathlib.Core.List.{List, [], _∷_}
-use lib.ListN.{drop, replicate}
+-- What `planlist` prints: the numbers of its lines, and its bytes (G8 to G11).
+use Prim.Native.Nat.{ℕ, _+_}
+use mathlib.Core.List.{List, [], _∷_, _++_, flatMap}
+use lib.ListN.{length, drop, replicate}
 use Rattle.base.specs.Answers.{Answer, given, refused}
-use Rattle.obu.specs.Unit.{obuNumbers, obusOf}
+use Rattle.base.specs.Words.{ascii}
+use Rattle.obu.specs.Unit.{obusOf}
 use Rattle.obu.specs.declared.Obu.{Obu}
-use Rattle.packetizer.specs.Plan.{planNumbers}
 use Rattle.packetizer.specs.Call.{unitPlan, planAnswer}
 use Rattle.packetizer.specs.declared.PacketMetadata.{PacketMetadata}
 use Rattle.packetizer.specs.declared.Planned.{Planned}
-use Rattle.listing.specs.Input.{headBytes, listRecords, Input, badInput, good, inputOf}
-use Rattle.listing.specs.Row.{rowBy}
+use Rattle.turns.specs.Text.{decimal}
+use Rattle.listing.specs.Input.{headBytes, listNumbers, Input, badInput, good, inputOf}
+use Rattle.listing.specs.Row.{rowBy, rowText}
 use Rattle.listing.specs.declared.Row.{Row}
 
 pub data Listing : Type 0 where
@@ -32,7 +33,7 @@ listedBy mtu unit (refused n at) = refusedBy n at
 
 -- of a unit, with lists of L13
 unfoldable pub unitListing : ℕ → List ℕ → Listing
-unitListing mtu unit = listedBy mtu unit (planAnswer mtu unit (replicate (listRecords * obuNumbers) 0) (replicate (listRecords * planNumbers) 0))
+unitListing mtu unit = listedBy mtu unit (planAnswer mtu unit (replicate listNumbers 0) (replicate listNumbers 0))
 
 abbrev pub listingBy : List ℕ → Input → Listing
 listingBy l badInput = bad
@@ -41,3 +42,29 @@ listingBy l (good mtu) = unitListing mtu (drop headBytes l)
 -- of a whole input
 abbrev pub planlistOf : List ℕ → Listing
 planlistOf l = listingBy l (inputOf l)
+
+-- ---- its bytes
+
+-- two numbers, each behind its words
+unfoldable pub twoNumbers : List ℕ → ℕ → List ℕ → ℕ → List ℕ
+twoNumbers a m b n = a ++ (decimal m ++ (b ++ (decimal n ++ ascii "\n")))
+
+abbrev pub badText : List ℕ
+badText = ascii "bad input\n"
+
+-- `refused 7 0`
+abbrev pub refusedText : ℕ → ℕ → List ℕ
+refusedText n at = twoNumbers (ascii "refused ") n (ascii " ") at
+
+-- `obus 2` and, on a line of its own, `packets 2`
+abbrev pub countsText : ℕ → ℕ → List ℕ
+countsText obus packets = twoNumbers (ascii "obus ") obus (ascii "\npackets ") packets
+
+abbrev pub listingText : Listing → List ℕ
+listingText bad = badText
+listingText (refusedBy n at) = refusedText n at
+listingText (lists n rows) = countsText n (length rows) ++ flatMap rowText rows
+
+-- all on standard output
+abbrev pub planlistText : List ℕ → List ℕ
+planlistText l = listingText (planlistOf l)

@@ -1,12 +1,14 @@
 -- A line of the listing (G10).
-use Prim.Native.Nat.{ℕ, _+_}
-use mathlib.Core.List.{List}
+use Prim.Native.Nat.{ℕ, _+_, _/_, _%_}
+use mathlib.Core.List.{List, [], _∷_, _++_}
 use mathlib.Core.Bool.{cond}
 use lib.ListN.{getD}
 use lib.Dec.{ltb}
+use Rattle.base.specs.Words.{ascii}
 use Rattle.obu.specs.declared.Obu.{Obu}
 use Rattle.packetizer.specs.declared.PacketMetadata.{PacketMetadata}
 use Rattle.aggregation.specs.Header.{noPacket, byteOf}
+use Rattle.turns.specs.Text.{decimal}
 use Rattle.listing.specs.declared.Row.{Row}
 
 abbrev pub rowBy : List Obu → PacketMetadata → ℕ → Row
@@ -28,3 +30,21 @@ rowOf obus packets k = rowBy obus (getD packets k noPacket) k
 -- a hexadecimal digit, in capitals: its letter in ASCII
 abbrev pub capital : ℕ → ℕ
 capital d = cond (ltb d 10) (48 + d) (55 + d)
+
+-- a byte as two such digits; a number and the blank after it
+abbrev pub twoDigits : ℕ → List ℕ
+twoDigits b = capital (b / 16) ∷ capital (b % 16) ∷ []
+
+abbrev pub column : ℕ → List ℕ
+column n = decimal n ++ ascii " "
+
+-- `0 0 1 0 2 2 18` and a newline
+unfoldable pub rowText : Row → List ℕ
+rowText r =
+    column (r .packet)
+    ++ (column (r .«first_obu»)
+    ++ (column (r .elements)
+    ++ (column (r .«first_offset»)
+    ++ (column (r .«last_size»)
+    ++ (column (r .«packet_size»)
+    ++ (twoDigits (r .header) ++ ascii "\n"))))))

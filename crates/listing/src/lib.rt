@@ -1,47 +1,44 @@
-// What `planlist` decides (G8 to G11): the head of its input, whether the input is good, and the lines; and their printing.
-use libc::STDIN_FILENO;
-use libc::STDOUT_FILENO;
+// `planlist` as steps on lent bytes: all that it decides (G8 to G14, L12, L13). The program does as each turn orders.
+mod head; // head.rt: the head of the input
+mod text; // text.rt: what is printed
+
 use packetizer::PlanAnswer;
+use turns::Came;
+use turns::Order;
+use turns::Subject;
+use turns::Word;
 ghost use mathlib.Core.Path.{_≡_};
-ghost use Prim.Native.Nat.{ℕ, _+_, _*_, _≤_, _<_};
-ghost use lib.ListN.{length, getD};
-ghost use Rattle.io.specs.Counts.{Counts};
-ghost use Rattle.base.specs.Answers.{given};
-ghost use Rattle.packetizer.specs.Plan.{planNumbers};
-ghost use Rattle.aggregation.specs.Header.{noPacket, byteOf, headerOf};
-ghost use Rattle.aggregation.specs.Flat.{obusIn, packetsIn};
-ghost use Rattle.listing.specs.Input.{unitStore, headOf, lengthBy, inputRead};
-ghost use Rattle.listing.specs.Row.{rowOf, capital};
-ghost use Rattle.listing.specs.Paper.{paperHead, paperInput};
+ghost use Prim.Native.Nat.{ℕ, _≤_};
+ghost use mathlib.Core.Bool.{true};
+ghost use mathlib.Core.List.{List, []};
+ghost use lib.ListN.{length};
+ghost use Rattle.base.specs.Lists.{front};
+ghost use Rattle.turns.specs.Text.{lineBytes};
+ghost use Rattle.turns.specs.Orders.{arrival, Turned};
+ghost use Rattle.listing.specs.Input.{unitStore, listNumbers, headOf};
+ghost use Rattle.listing.specs.Listing.{badText};
+ghost use Rattle.listing.specs.Steps.{startsWith, awaits, prints, headTold, unitTold, unitAfter, furtherTold, rowTold, readOf, failed, told, unitNext, Filled, Ready, Lent, Writes};
 
-// The version byte, the bytes of a head, the longest unit, and the numbers of 512 records.
-const VERSION: u8 = 1;
-
-pub const HEAD_BYTES: usize = 7;
+// The bytes of a head, of the unit store, and the numbers of a list of 512 records (L12, L13).
+const HEAD_BYTES: usize = 7;
 
 pub const UNIT_STORE: usize = 32768;
 
-pub const LIST_NUMBERS: usize = 2560;
+pub const LIST_NUMBERS: usize = 512 * packetizer::PLAN_NUMBERS;
 
 // What a head states.
-pub struct Stated {
+struct Stated {
     pub mtu: usize,
     pub length: usize,
 }
 
-pub enum HeadRead {
+enum HeadRead {
     Head(Stated),
     Bad,
 }
 
-// An input is good, and has this mtu, or bad.
-pub enum InputRead {
-    Good(usize),
-    Bad,
-}
-
 // The numbers of a line, in its order.
-pub struct Row {
+struct Row {
     pub packet: usize,
     pub first_obu: u32,
     pub elements: u32,
@@ -51,158 +48,235 @@ pub struct Row {
     pub header: u8,
 }
 
-// The head of an input, or what there is of it.
-fn read_head(head: &[u8]) -> HeadRead
-    ensures { λ r. ⌜ paperHead r ≡ headOf (now (head .entry)) ⌝ }
-{
-    if head.len() < HEAD_BYTES {
-        return HeadRead::Bad;
-    }
-    if head[0] != VERSION {
-        return HeadRead::Bad;
-    }
-    let mtu = train::two_bytes(head, 1) as usize;
-    let length = train::four_bytes(head, 3);
-    if length > UNIT_STORE {
-        return HeadRead::Bad;
-    }
-    HeadRead::Head(Stated {
-        mtu: mtu,
-        length: length,
-    })
+// What a run waits for: the head, the unit, a further byte, its turn to print the line of packet k, or nothing.
+pub enum Wait {
+    Head,
+    Unit,
+    Further,
+    Row(usize),
+    Nothing,
 }
 
-// How many bytes of the unit are to come after a head: none after a bad one.
-pub fn unit_length(head: &[u8]) -> usize
-    ensures { λ r. ⌜ (r ≡ lengthBy (headOf (now (head .entry)))) × (r ≤ unitStore) ⌝ }
+// Where a run stands: what it waits for, what the head states, and how many OBUs and packets the plan has.
+pub struct Place {
+    pub wait: Wait,
+    pub mtu: usize,
+    pub length: usize,
+    pub obus: usize,
+    pub packets: usize,
+}
+
+// What the program does now, and where it then stands.
+pub struct Turn {
+    pub place: Place,
+    pub order: Order,
+}
+
+// The same numbers, with this to wait for.
+fn awaiting(place: Place, wait: Wait) -> Place
+    ensures { λ r. ⌜ r ≡ awaits place wait ⌝ }
 {
-    match read_head(head) {
-        HeadRead::Bad => 0,
-        HeadRead::Head(stated) => stated.length,
+    Place {
+        wait: wait,
+        mtu: place.mtu,
+        length: place.length,
+        obus: place.obus,
+        packets: place.packets,
     }
 }
 
-// An input by its head, by how many bytes of the unit came, and by whether a further byte came.
-pub fn read_input(head: &[u8], came: usize, more: bool) -> InputRead
-    ensures { λ r. ⌜ paperInput r ≡ inputRead (now (head .entry)) came more ⌝ }
+// What a run begins with: the head is read.
+pub fn start() -> Turn
+    ensures { λ r. ⌜ Turned startsWith (r .place) (r .order) [] [] unitStore lineBytes × ((unit obus plan : List ℕ) → Ready (r .place) unit obus plan) ⌝ }
 {
-    if more {
-        return InputRead::Bad;
+    Turn {
+        place: Place {
+            wait: Wait::Head,
+            mtu: 0,
+            length: 0,
+            obus: 0,
+            packets: 0,
+        },
+        order: turns::ask(0, HEAD_BYTES),
     }
-    match read_head(head) {
-        HeadRead::Bad => InputRead::Bad,
+}
+
+// So many bytes are written, and the run is over.
+fn print(place: Place, bytes: usize) -> Turn
+    ensures { λ r. ⌜ (r .place ≡ prints place [] .place) × (r .order ≡ record { more = true; write = bytes; say = 0; read = 0 }) ⌝ }
+{
+    Turn {
+        place: awaiting(place, Wait::Nothing),
+        order: turns::ask(bytes, 0),
+    }
+}
+
+// `bad input` is written, and the run is over.
+fn bad_input(place: Place, out: &mut [u8]) -> Turn
+    requires { ⌜ length (now out) ≡ lineBytes ⌝ }
+    ensures { λ r. ⌜ Writes (prints place badText) r (now (out .entry)) (now (out .exit)) ⌝ }
+{
+    let end = base::put_text(b"bad input\n", out, 0);
+    print(place, end)
+}
+
+// After the head, or what there was of it.
+fn head_step(place: Place, got: &[u8], out: &mut [u8]) -> Turn
+    requires { ⌜ length (now out) ≡ lineBytes ⌝ }
+    ensures { λ r. ⌜ Writes (headTold place (headOf (now (got .entry)))) r (now (out .entry)) (now (out .exit)) ⌝ }
+{
+    match head::read_head(got) {
+        HeadRead::Bad => bad_input(place, out),
         HeadRead::Head(stated) => {
-            if came == stated.length {
-                InputRead::Good(stated.mtu)
-            } else {
-                InputRead::Bad
+            let length = stated.length;
+            Turn {
+                place: Place {
+                    wait: Wait::Unit,
+                    mtu: stated.mtu,
+                    length: length,
+                    obus: place.obus,
+                    packets: place.packets,
+                },
+                order: turns::ask(0, length),
             }
         }
     }
 }
 
-// The line of packet k.
-pub fn row_at(obus: &[u32], plan: &[u32], k: usize) -> Row
-    requires { ⌜ (k + 1) * planNumbers ≤ length (now plan) ⌝ }
-    requires { ⌜ headerOf (obusIn (now obus)) (packetsIn (now plan)) k ≡ given (byteOf (obusIn (now obus)) (getD (packetsIn (now plan)) k noPacket) k) ⌝ }
-    ensures { λ r. ⌜ r ≡ rowOf (obusIn (now (obus .entry))) (packetsIn (now (plan .entry))) k ⌝ }
+// After the unit, or what there was of it: it is kept in the unit store.
+fn unit_step(place: Place, got: &[u8], unit: &mut [u8], out: &mut [u8]) -> Turn
+    requires { ⌜ (length (now got) ≤ length (now unit)) × (length (now out) ≡ lineBytes) ⌝ }
+    ensures { λ r. ⌜ Writes (unitTold place (now (got .entry))) r (now (out .entry)) (now (out .exit))
+        × (now (unit .exit) ≡ unitAfter place (now (got .entry)) (now (unit .entry))) ⌝ }
 {
-    let p = aggregation::packet_at(plan, k);
-    let header = payloader::header_byte(obus, plan, k);
-    Row {
-        packet: k,
-        first_obu: p.first_obu_index,
-        elements: p.num_obu_elements,
-        first_offset: p.first_obu_offset,
-        last_size: p.last_obu_size,
-        packet_size: p.packet_size,
-        header: header,
+    let length = place.length;
+    if got.len() < length {
+        return bad_input(place, out);
+    }
+    base::copy_bytes(got, 0, length, unit, 0);
+    Turn {
+        place: awaiting(place, Wait::Further),
+        order: turns::ask(0, 1),
     }
 }
 
-// A hexadecimal digit, in capitals.
-pub fn hex_digit(d: u8) -> u8
-    requires { ⌜ d < 16 ⌝ }
-    ensures { λ r. ⌜ r ≡ capital d ⌝ }
+// After the byte behind the unit, of which there must be none: the plan's counts, or why there is no plan.
+fn further_step(
+    place: Place,
+    got: &[u8],
+    unit: &[u8],
+    obus: &mut [u32],
+    plan: &mut [u32],
+    out: &mut [u8],
+) -> Turn
+    requires { ⌜ (place .length ≤ unitStore) × (length (now unit) ≡ unitStore) × (length (now obus) ≡ listNumbers) × (length (now plan) ≡ listNumbers) × (length (now out) ≡ lineBytes) ⌝ }
+    ensures { λ r. ⌜ Writes (furtherTold place (now (got .entry)) (now (unit .entry))) r (now (out .entry)) (now (out .exit))
+        × Ready (r .place) (now (unit .entry)) (now (obus .exit)) (now (plan .exit)) ⌝ }
 {
-    if d < 10 { 48 + d } else { 55 + d }
-}
-
-fn print_count(n: usize) {
-    io::print_decimal(STDOUT_FILENO, n as u64);
-}
-
-// A number and the blank after it.
-fn print_column(n: u32) {
-    io::print_decimal(STDOUT_FILENO, n as u64);
-    io::write_all(STDOUT_FILENO, b" ");
-}
-
-fn print_byte(b: u8) {
-    let text = [hex_digit(b / 16), hex_digit(b % 16)];
-    io::write_all(STDOUT_FILENO, &text);
-}
-
-fn print_row(row: Row) {
-    print_count(row.packet);
-    io::write_all(STDOUT_FILENO, b" ");
-    print_column(row.first_obu);
-    print_column(row.elements);
-    print_column(row.first_offset);
-    print_column(row.last_size);
-    print_column(row.packet_size);
-    print_byte(row.header);
-    io::write_all(STDOUT_FILENO, b"\n");
-}
-
-// The lines of the first packets of a plan.
-fn print_rows(obus: &[u32], plan: &[u32], packets: usize)
-    requires { ⌜ packets * planNumbers ≤ length (now plan) ⌝ }
-    requires { ⌜ ((k : ℕ) → k < packets → headerOf (obusIn (now obus)) (packetsIn (now plan)) k ≡ given (byteOf (obusIn (now obus)) (getD (packetsIn (now plan)) k noPacket) k)) ⌝ }
-{
-    let mut k: usize = 0;
-    while k < packets {
-        print_row(row_at(obus, plan, k));
-        k += 1;
+    if got.len() > 0 {
+        return bad_input(place, out);
     }
-}
-
-// Calls the planner, and prints the refusal or the listing.
-fn print_plan(mtu: usize, unit: &[u8], obus: &mut [u32], plan: &mut [u32]) {
-    match packetizer::plan_unit(mtu, unit, obus, plan) {
+    let length = place.length;
+    match packetizer::plan_unit(place.mtu, &unit[..length], obus, plan) {
         PlanAnswer::Refused { refusal, at } => {
-            io::write_all(STDOUT_FILENO, b"refused ");
-            print_column(base::number(refusal));
-            print_count(at);
-            io::write_all(STDOUT_FILENO, b"\n");
+            let number = base::number(refusal);
+            let end = text::put_two(b"refused ", number as u64, b" ", at as u64, out);
+            print(place, end)
         }
         PlanAnswer::Planned(planned) => {
-            io::write_all(STDOUT_FILENO, b"obus ");
-            print_count(planned.obus);
-            io::write_all(STDOUT_FILENO, b"\npackets ");
-            print_count(planned.packets);
-            io::write_all(STDOUT_FILENO, b"\n");
-            print_rows(obus, plan, planned.packets);
+            let count = planned.obus;
+            let packets = planned.packets;
+            let end = text::put_two(b"obus ", count as u64, b"\npackets ", packets as u64, out);
+            Turn {
+                place: Place {
+                    wait: Wait::Row(0),
+                    mtu: place.mtu,
+                    length: length,
+                    obus: count,
+                    packets: packets,
+                },
+                order: turns::ask(end, 0),
+            }
         }
     }
 }
 
-// Reads n bytes to the front of a store, as far as they come and as it has space, and returns how many came.
-pub fn read_front(store: &mut [u8], n: usize) -> usize
-    ensures { λ r. ⌜ Counts r (now (store .exit)) ⌝ }
+// The line of packet k, if there is one, from lists that hold the plan of some unit.
+fn row_step(place: Place, k: usize, obus: &[u32], plan: &[u32], out: &mut [u8]) -> Turn
+    requires { ⌜ ((u : List ℕ) × Filled place u (now obus) (now plan)) × (length (now out) ≡ lineBytes) ⌝ }
+    ensures { λ r. ⌜ ((u : List ℕ) → Filled place u (now (obus .entry)) (now (plan .entry)) → Writes (rowTold place k u) r (now (out .entry)) (now (out .exit))) ⌝ }
 {
-    let most = base::smaller(n, store.len());
-    io::read_full(STDIN_FILENO, &mut store[..most])
+    let packets = place.packets;
+    if packets <= k {
+        return Turn {
+            place: awaiting(place, Wait::Nothing),
+            order: turns::over(),
+        };
+    }
+    let listed = place.obus * obu::OBU_NUMBERS;
+    let planned = packets * packetizer::PLAN_NUMBERS;
+    let row = text::row_at(&obus[..listed], &plan[..planned], k);
+    let end = text::put_row(row, out);
+    Turn {
+        place: awaiting(place, Wait::Row(k + 1)),
+        order: turns::ask(end, 0),
+    }
 }
 
-// All that `planlist` prints for an input: the bytes read of its head and of its unit, and whether a further byte came.
-pub fn print_listing(head: &[u8], unit: &[u8], more: bool, obus: &mut [u32], plan: &mut [u32]) {
-    match read_input(head, unit.len(), more) {
-        InputRead::Bad => {
-            io::write_all(STDOUT_FILENO, b"bad input\n");
-        }
-        InputRead::Good(mtu) => {
-            print_plan(mtu, unit, obus, plan);
-        }
+// What a run reads where it stands, for the line of a failed read.
+fn read_subject(wait: Wait) -> Subject
+    ensures { λ r. ⌜ r ≡ readOf wait ⌝ }
+{
+    match wait {
+        Wait::Head => Subject::Input,
+        Wait::Unit => Subject::Unit(0),
+        Wait::Further => Subject::Unit(0),
+        Wait::Row(_) => Subject::Unit(0),
+        Wait::Nothing => Subject::Unit(0),
+    }
+}
+
+// After a read or a write that failed: it is said, and the run is over where it stood.
+fn failed_step(stood: Place, subject: Subject, word: Word, line: &mut [u8]) -> Turn
+    requires { ⌜ length (now line) ≡ lineBytes ⌝ }
+    ensures { λ r. ⌜ Turned (failed stood subject word) (r .place) (r .order) (now (line .entry)) (now (line .exit)) unitStore lineBytes ⌝ }
+{
+    Turn {
+        place: awaiting(stood, Wait::Nothing),
+        order: turns::say(subject, word, 0, line),
+    }
+}
+
+// The next turn, by what came of the one before: all that `planlist` decides.
+pub fn step(
+    place: Place,
+    came: Came,
+    input: &[u8],
+    unit: &mut [u8],
+    obus: &mut [u32],
+    plan: &mut [u32],
+    out: &mut [u8],
+    line: &mut [u8],
+) -> Turn
+    requires { ⌜ Lent place came (now input) (now unit) (now obus) (now plan) (now out) (now line) ⌝ }
+    ensures { λ r. ⌜ Turned (told place (arrival came (now (input .entry))) (now (unit .entry))) (r .place) (r .order) (now (line .entry)) (now (line .exit)) unitStore lineBytes
+        × (now (out .exit) ≡ front (told place (arrival came (now (input .entry))) (now (unit .entry)) .written) (now (out .entry)))
+        × (now (unit .exit) ≡ unitNext place (arrival came (now (input .entry))) (now (unit .entry)))
+        × Ready (r .place) (now (unit .exit)) (now (obus .exit)) (now (plan .exit)) ⌝ }
+{
+    let wait = place.wait;
+    match came {
+        Came::ReadFailed => failed_step(place, read_subject(wait), Word::ReadFailed, line),
+        Came::WriteFailed => failed_step(place, Subject::Unit(0), Word::WriteFailed, line),
+        Came::Read(n) => match wait {
+            Wait::Head => head_step(place, &input[..n], out),
+            Wait::Unit => unit_step(place, &input[..n], unit, out),
+            Wait::Further => further_step(place, &input[..n], unit, obus, plan, out),
+            Wait::Row(k) => row_step(place, k, obus, plan, out),
+            Wait::Nothing => Turn {
+                place: place,
+                order: turns::over(),
+            },
+        },
     }
 }

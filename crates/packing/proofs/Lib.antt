@@ -3,4 +3,5 @@ pub mod Rows
 pub mod Reading
 pub mod Recording
 pub mod Units
+pub mod Turning
 pub mod Runs

@@ -1,25 +1,32 @@
--- The records of a unit's packets, and what the loop over the packets keeps. Assumes nothing.
+-- The payloads of a unit that are still to be written, and the record of the next. Assumes nothing.
 use mathlib.Core.Path.{_≡_, refl, sym, ap, _∙_}
-use Prim.Native.Nat.{ℕ, _+_, _-_, _≤_, _<_}
+use Prim.Native.Nat.{ℕ, zero, suc, _+_, _-_, _*_, _≤_, _<_}
+use native.Mathlib.Nat.{add-zero, zero-add}
 use native.Mathlib.Numerals.{add-one}
 use native.Mathlib.Omega.{arith}
 use mathlib.Core.List.{List, [], _∷_, _++_, flatMap}
 use lib.ListN.{length, getD, take, drop, length-append, drop-of-length-le}
-use lib.Seq.{drop-cons, drop-drop, take-at, drop-at, sets, sets-eq}
-use Rattle.base.proofs.Lists.{sets-append}
-use Rattle.base.specs.Lists.{replaced}
+use lib.Seq.{drop-cons, drop-drop, take-at, take-take, take-all, drop-at, sets, sets-eq}
+use Rattle.base.specs.Lists.{front, replaced, Put}
+use Rattle.base.proofs.Lists.{sets-append, take-drop, put-front}
 use Rattle.leb128.specs.Field.{encode}
-use Rattle.obu.specs.Unit.{unitLimit, obusOf}
+use Rattle.obu.specs.Unit.{obusOf}
+use Rattle.obu.specs.declared.Obu.{Obu}
 use Rattle.obu.proofs.Theorems.{Bytes}
+use Rattle.packetizer.specs.Plan.{planNumbers}
 use Rattle.packetizer.specs.Call.{mtuLimit, sizesOf, unitPlan}
+use Rattle.packetizer.specs.declared.PacketMetadata.{PacketMetadata}
 use Rattle.packetizer.proofs.Runs.{Sound}
 use Rattle.aggregation.specs.Header.{noPacket}
+use Rattle.aggregation.specs.Flat.{packetsIn}
 use Rattle.payloader.specs.Payload.{payload, payloadsFrom, payloadsOf, joined}
 use Rattle.payloader.proofs.Packets.{packet-sound}
-use Rattle.payloader.proofs.Totals.{rest, rest-step, payload-length}
+use Rattle.payloader.proofs.Totals.{payload-length}
+use Rattle.payloader.proofs.Units.{packets-flat}
 use Rattle.train.specs.Train.{lengthWidth, numberWidth, Packet, headBytes, recordBytes}
 use Rattle.train.proofs.Numbers.{head-length}
-use Rattle.packing.specs.Pack.{nextNumber, numbered, numberAfter, recordsOf}
+use Rattle.packing.specs.Steps.{recordRoom, after, leftOf, Ready}
+use Rattle.packing.specs.declared.unit.Progress.{Progress}
 
 abbrev pub packet : ℕ → List ℕ → Packet
 packet n p = record { number = n; payload = p }
@@ -42,111 +49,111 @@ record-stored records at n size p e h =
     (ap (λ (x : List ℕ). sets x (at + length head) p) (sym (sets-eq head records at (omega (arith, l))))
     ∙ sym (sets-append records at head p))
 
--- ---- those from packet k on, the first of which has the number n
+-- ---- the payloads from packet k on
+
+pub payloads-count : (unit : List ℕ) (obus : List Obu) (k : ℕ) (ps : List PacketMetadata) → length (payloadsFrom encode unit obus k ps) ≡ length ps
+unfolding payloadsFrom
+payloads-count unit obus k [] = refl
+payloads-count unit obus k (p ∷ ps) = ap suc (payloads-count unit obus (k + 1) ps)
+
+payloads-drop : (unit : List ℕ) (obus : List Obu) (i k : ℕ) (ps : List PacketMetadata)
+    → drop k (payloadsFrom encode unit obus i ps) ≡ payloadsFrom encode unit obus (i + k) (drop k ps)
+unfolding payloadsFrom
+payloads-drop unit obus i zero ps = rw (add-zero i)
+payloads-drop unit obus i (suc k) [] = refl
+payloads-drop unit obus i (suc k) (p ∷ ps) =
+    let e : i + 1 + k ≡ i + suc k = omega arith in
+    payloads-drop unit obus (i + 1) k ps ∙ ap (λ (j : ℕ). payloadsFrom encode unit obus j (drop k ps)) e
 
 module _ (mtu : ℕ) (unit : List ℕ) where
-  abbrev from-k : ℕ → List (List ℕ)
-  from-k k = payloadsFrom encode unit (obusOf unit) k (drop k (unitPlan mtu unit))
-
   abbrev pub here : ℕ → List ℕ
   here k = payload encode unit (obusOf unit) k (getD (unitPlan mtu unit) k noPacket)
 
-  abbrev pub recs : ℕ → ℕ → List ℕ
-  recs k n = recordsOf n (from-k k)
+  left-is : (k : ℕ) → drop k (payloadsOf mtu unit) ≡ payloadsFrom encode unit (obusOf unit) k (drop k (unitPlan mtu unit))
+  left-is k = payloads-drop unit (obusOf unit) 0 k (unitPlan mtu unit) ∙ ap (λ (j : ℕ). payloadsFrom encode unit (obusOf unit) j (drop k (unitPlan mtu unit))) (zero-add k)
 
-  abbrev pub after : ℕ → ℕ → ℕ
-  after k n = numberAfter n (from-k k)
-
-  from-step : (k : ℕ) → k < length (unitPlan mtu unit) → from-k k ≡ here k ∷ from-k (k + 1)
+  pub left-some : (k : ℕ) → k < length (unitPlan mtu unit) → drop k (payloadsOf mtu unit) ≡ here k ∷ drop (k + 1) (payloadsOf mtu unit)
   unfolding payloadsFrom
-  from-step k h = rw (drop-cons (unitPlan mtu unit) k noPacket h, add-one k)
+  left-some k h =
+      left-is k
+      ∙ ap (payloadsFrom encode unit (obusOf unit) k) (drop-cons (unitPlan mtu unit) k noPacket h)
+      ∙ ap (λ (ps : List PacketMetadata). here k ∷ payloadsFrom encode unit (obusOf unit) (k + 1) ps) (ap (λ (j : ℕ). drop j (unitPlan mtu unit)) (sym (add-one k)))
+      ∙ ap (λ (l : List (List ℕ)). here k ∷ l) (sym (left-is (k + 1)))
 
-  from-end : (k : ℕ) → length (unitPlan mtu unit) ≤ k → from-k k ≡ []
-  unfolding payloadsFrom
-  from-end k h = rw (drop-of-length-le (unitPlan mtu unit) h)
+  pub left-none : (k : ℕ) → length (unitPlan mtu unit) ≤ k → drop k (payloadsOf mtu unit) ≡ []
+  left-none k h =
+      let past : length (payloadsOf mtu unit) ≤ k = omega (arith, payloads-count unit (obusOf unit) 0 (unitPlan mtu unit)) in
+      drop-of-length-le (payloadsOf mtu unit) past
 
-  recs-step : (k n : ℕ) → k < length (unitPlan mtu unit) → recs k n ≡ recordBytes lengthWidth (packet n (here k)) ++ recs (k + 1) (nextNumber n)
-  unfolding numbered flatMap
-  recs-step k n h = ap (recordsOf n) (from-step k h)
+-- ---- what is ready, where there is a packet more
 
-  after-step : (k n : ℕ) → k < length (unitPlan mtu unit) → after k n ≡ after (k + 1) (nextNumber n)
-  unfolding numberAfter
-  after-step k n h = ap (numberAfter n) (from-step k h)
+module _ {mtu : ℕ} {g : Progress} {unit plan out : List ℕ} (r : Ready mtu g unit plan out) (bytes : Bytes unit) (more : g .packet < g .packets) where
+  abbrev k : ℕ
+  k = g .packet
 
-  recs-end : (k n : ℕ) → length (unitPlan mtu unit) ≤ k → recs k n ≡ []
-  unfolding numbered flatMap
-  recs-end k n h = ap (recordsOf n) (from-end k h)
+  there : k < length (unitPlan mtu unit)
+  there = omega (arith, r .packets-is)
 
-  after-end : (k n : ℕ) → length (unitPlan mtu unit) ≤ k → after k n ≡ n
-  unfolding numberAfter
-  after-end k n h = ap (numberAfter n) (from-end k h)
+  abbrev more-of : List ℕ
+  more-of = joined (drop (k + 1) (payloadsOf mtu unit))
 
-  -- ---- what the loop keeps
+  left-split : leftOf mtu unit g ≡ here mtu unit k ++ more-of
+  unfolding flatMap
+  left-split = ap joined (left-some mtu unit k there)
 
-  pub record Recording (pay records₀ : List ℕ) (n₀ : ℕ) (records : List ℕ) (k at from n : ℕ) : Type 0 where
-    pub inside : k ≤ length (unitPlan mtu unit)
-    pub same : length records ≡ length records₀
-    pub ends : at + length (recs k n) ≡ length (recs 0 n₀)
-    pub to : sets records at (recs k n) ≡ sets records₀ 0 (recs 0 n₀)
-    pub left : drop from pay ≡ rest mtu unit k
-    pub came : from + length (rest mtu unit k) ≡ length pay
-    pub counts : after k n ≡ after 0 n₀
+  -- its size, as the plan has it
+  pub ready-sized : (size : ℕ) → size ≡ getD (packetsIn (take (g .packets * planNumbers) plan)) k noPacket .«packet_size» + 1 → size ≡ length (here mtu unit k)
+  ready-sized size e =
+      e
+      ∙ ap (λ (l : List ℕ). getD (packetsIn l) k noPacket .«packet_size» + 1) (r .plan-is)
+      ∙ ap (λ (ps : List PacketMetadata). getD ps k noPacket .«packet_size» + 1) (packets-flat (unitPlan mtu unit))
+      ∙ sym (payload-length mtu unit (r .small) bytes k there)
 
-  pub recording-first : (pay records : List ℕ) (n : ℕ) → pay ≡ joined (payloadsOf mtu unit) → Recording pay records n records 0 0 0 n
-  recording-first pay records n e =
-      record { inside = omega arith; same = refl; ends = omega arith; to = refl; left = e; came = omega (arith, ap length e); counts = refl }
+  left-length : length (leftOf mtu unit g) ≡ length (here mtu unit k) + length more-of
+  left-length = ap length left-split ∙ length-append (here mtu unit k) more-of
 
-  module _ (small : length unit ≤ unitLimit) (bytes : Bytes unit) (most : mtu ≤ mtuLimit)
-      (pay records₀ : List ℕ) (n₀ : ℕ) (records : List ℕ) (k at from n size : ℕ) (w : Recording pay records₀ n₀ records k at from n)
-      (h : k < length (unitPlan mtu unit)) (sized : size ≡ getD (unitPlan mtu unit) k noPacket .«packet_size» + 1) where
-    here-size : length (here k) ≡ size
-    here-size = payload-length mtu unit small bytes k h ∙ sym sized
+  module _ (size : ℕ) (sized : size ≡ length (here mtu unit k)) where
+    pub ready-room : (g .from + size ≤ length out) × (0 + (4 + size) ≤ recordRoom) × (size ≤ mtuLimit)
+    ready-room =
+        let s : Sound (mtu - 1) (sizesOf unit) (getD (unitPlan mtu unit) k noPacket) = packet-sound mtu unit k (r .small) there in
+        let l = payload-length mtu unit (r .small) bytes k there in
+        let most : size ≤ mtuLimit = omega (arith, s .most, s .least, r .most) in
+        (omega (arith, r .out-room, left-length), omega arith, most)
 
-    step-length : length (recs k n) ≡ 4 + size + length (recs (k + 1) (nextNumber n))
-    step-length =
-        ap length (recs-step k n h)
-        ∙ length-append (recordBytes lengthWidth (packet n (here k))) (recs (k + 1) (nextNumber n))
-        ∙ omega (arith, record-length n (here k), here-size)
+    pub ready-taken : take size (drop (g .from) out) ≡ here mtu unit k
+    ready-taken =
+        let within : size ≤ length (leftOf mtu unit g) = omega (arith, left-length) in
+        sym (take-take size (length (leftOf mtu unit g)) (drop (g .from) out) within)
+        ∙ ap (take size) (r .out-is ∙ left-split)
+        ∙ take-at (here mtu unit k) more-of size (sym sized)
 
-    rest-length : length (rest mtu unit k) ≡ size + length (rest mtu unit (k + 1))
-    rest-length = ap length (rest-step mtu unit k h) ∙ length-append (here k) (rest mtu unit (k + 1)) ∙ omega (arith, here-size)
-
-    taken : take size (drop from pay) ≡ here k
-    taken = ap (take size) (w .left ∙ rest-step mtu unit k h) ∙ take-at (here k) (rest mtu unit (k + 1)) size here-size
-
-    pub recording-room : length (recs 0 n₀) ≤ length records₀ → (from + size ≤ length pay) × (at + (4 + size) ≤ length records) × (size ≤ mtuLimit)
-    recording-room r =
-        let s : Sound (mtu - 1) (sizesOf unit) (getD (unitPlan mtu unit) k noPacket) = packet-sound mtu unit k small h in (
-          omega (arith, w .came, rest-length),
-          omega (arith, w .ends, w .same, step-length),
-          omega (arith, s .most, s .least),
-        )
-
-    pub recording-next : (records′ : List ℕ) (at′ n′ : ℕ) → length records′ ≡ length records → at′ ≡ at + (4 + size)
-        → records′ ≡ sets records at (recordBytes lengthWidth (packet n (take size (drop from pay)))) → n′ ≡ nextNumber n
-        → Recording pay records₀ n₀ records′ (k + 1) at′ (from + size) n′
-    recording-next records′ at′ n′ l a r e =
-        let b = recordBytes lengthWidth (packet n (here k)) in
-        let c : at′ ≡ at + length b = omega (arith, record-length n (here k), here-size) in
-        let f : records′ ≡ sets records at b = r ∙ ap (λ (p : List ℕ). sets records at (recordBytes lengthWidth (packet n p))) taken in
-        rw e
+    pub ready-next : Ready mtu (after g size) unit plan out
+    ready-next =
+        let long : size + length more-of ≡ length (leftOf mtu unit g) = omega (arith, left-length) in
         record {
-          inside = omega arith;
-          same = l ∙ w .same;
-          ends = omega (arith, step-length, w .ends);
-          to =
-              rw (f, c)
-              (sym (sets-append records at b (recs (k + 1) (nextNumber n))) ∙ ap (sets records at) (sym (recs-step k n h)) ∙ w .to);
-          left =
-              sym (drop-drop size from pay)
-              ∙ ap (drop size) (w .left ∙ rest-step mtu unit k h)
-              ∙ drop-at (here k) (rest mtu unit (k + 1)) size here-size;
-          came = omega (arith, w .came, rest-length);
-          counts = sym (after-step k n h) ∙ w .counts;
+          unit-is = r .unit-is;
+          small = r .small;
+          most = r .most;
+          packets-is = r .packets-is;
+          plan-room = r .plan-room;
+          plan-is = r .plan-is;
+          out-room = omega (arith, r .out-room, left-length);
+          out-is =
+              ap (take (length more-of)) (sym (drop-drop size (g .from) out))
+              ∙ take-drop (length more-of) size (drop (g .from) out)
+              ∙ ap (drop size) (ap (λ (n : ℕ). take n (drop (g .from) out)) long ∙ r .out-is ∙ left-split)
+              ∙ drop-at (here mtu unit k) more-of size (sym sized);
         }
 
-  pub recording-last : (pay records₀ : List ℕ) (n₀ : ℕ) (records : List ℕ) (k at from n : ℕ) → Recording pay records₀ n₀ records k at from n
-      → length (unitPlan mtu unit) ≤ k
-      → (at ≡ length (recordsOf n₀ (payloadsOf mtu unit))) × (n ≡ numberAfter n₀ (payloadsOf mtu unit)) × (records ≡ sets records₀ 0 (recordsOf n₀ (payloadsOf mtu unit)))
-  recording-last pay records₀ n₀ records k at from n w h =
-      (omega (arith, w .ends, ap length (recs-end k n h)), sym (after-end k n h) ∙ w .counts, rw (recs-end k n h) at (w .to))
+    -- its record, stored first
+    pub record-is : (n end : ℕ) (l l′ : List ℕ) → end ≡ 0 + (4 + size) → l′ ≡ sets l 0 (recordBytes lengthWidth (packet n (take size (drop (g .from) out)))) → length l ≡ recordRoom
+        → (end ≡ length (recordBytes lengthWidth (packet n (here mtu unit k)))) × (end ≤ recordRoom) × (l′ ≡ front (recordBytes lengthWidth (packet n (here mtu unit k))) l)
+    record-is n end l l′ e f h =
+        let x = recordBytes lengthWidth (packet n (here mtu unit k)) in
+        let long : end ≡ length x = omega (arith, record-length n (here mtu unit k)) in
+        let put : Put l l′ 0 end x = record { cursor = omega arith; stored = f ∙ ap (λ (p : List ℕ). sets l 0 (recordBytes lengthWidth (packet n p))) ready-taken } in
+        (long, omega (arith, ready-room .1), put-front put (omega (arith, ready-room .1)) .1)
+
+-- the unit stands first in itself
+pub ready-whole : {mtu : ℕ} {g : Progress} {unit plan out : List ℕ} → Ready mtu g unit plan out → Ready mtu g (take (g .unit) unit) plan out
+ready-whole {mtu} {g} {unit} {plan} {out} r = rw (take-all (g .unit) unit (omega (arith, r .unit-is))) r

@@ -1,8 +1,9 @@
--- `pack` on some inputs: the trains, and what stops it; computed. Assumes nothing.
+-- `pack` on some inputs: the trains, and what is said; computed. Assumes nothing.
 use mathlib.Core.Path.{_≡_, refl}
 use Prim.Native.Nat.{ℕ}
 use mathlib.Core.List.{List, [], _∷_, map, flatMap}
 use Rattle.base.specs.Lists.{keep}
+use Rattle.base.specs.Words.{words, wordsOf}
 use Rattle.leb128.specs.Field.{fieldIn, encodeIn}
 use Rattle.obu.specs.Front.{frontOf, headed}
 use Rattle.obu.specs.Unit.{scanFrom, listed}
@@ -12,7 +13,10 @@ use Rattle.packetizer.specs.Elements.{elementsFrom}
 use Rattle.aggregation.specs.Header.{nOf, byteOf}
 use Rattle.payloader.specs.Payload.{fielded, payload, payloadsFrom}
 use Rattle.train.specs.Bytes.{bigEndian, valueAfter}
-use Rattle.packing.specs.Pack.{ended, cutAt, refusedAt, headIn, lengthIn, numbered, numberAfter, unitsFrom, unitsIn, packOf}
+use Rattle.turns.specs.Text.{decimalIn, lineText}
+use Rattle.turns.specs.declared.Subject.the-variants as subject
+use Rattle.turns.specs.declared.Word.the-variants as word
+use Rattle.packing.specs.Pack.{headIn, lengthIn, numbered, numberAfter, unitsFrom, packOf, packSays}
 
 -- three units, the first with no kept OBU, over the end of the numbers; the third refused; cut; its length cut; over the store;
 -- without it; no unit; an mtu of 2; an mtu over its limit; another version; a cut head; nothing
@@ -50,8 +54,20 @@ trains :
 unfolding inputs headIn lengthIn numbered numberAfter unitsFrom bigEndian valueAfter listed scanFrom frontOf headed fieldIn keep encodeIn planOf planFrom place insert spread fragmentOf needOf isFull chargeOf largestFragment elementsFrom nOf byteOf fielded payload payloadsFrom flatMap
 trains = refl
 
-stops :
-    map (λ (l : List ℕ). unitsIn l .stop) inputs
-    ≡ ended ∷ refusedAt 2 3 ∷ cutAt 2 ∷ cutAt 2 ∷ cutAt 2 ∷ ended ∷ ended ∷ ended ∷ refusedAt 0 1 ∷ ended ∷ ended ∷ ended ∷ []
-unfolding inputs headIn lengthIn numbered numberAfter unitsFrom bigEndian valueAfter listed scanFrom frontOf headed fieldIn keep encodeIn planOf planFrom place insert spread fragmentOf needOf isFull chargeOf largestFragment elementsFrom nOf byteOf fielded payload payloadsFrom flatMap
-stops = refl
+said :
+    map packSays inputs
+    ≡ []
+    ∷ lineText (subject.Unit 2) (word.Refused 3)
+    ∷ lineText (subject.Unit 2) word.Cut
+    ∷ lineText (subject.Unit 2) word.Cut
+    ∷ lineText (subject.Unit 2) word.Cut
+    ∷ []
+    ∷ []
+    ∷ []
+    ∷ lineText (subject.Unit 0) (word.Refused 1)
+    ∷ lineText subject.Input word.NoHead
+    ∷ lineText subject.Input word.NoHead
+    ∷ lineText subject.Input word.NoHead
+    ∷ []
+unfolding inputs headIn lengthIn numbered numberAfter unitsFrom bigEndian valueAfter listed scanFrom frontOf headed fieldIn keep encodeIn planOf planFrom place insert spread fragmentOf needOf isFull chargeOf largestFragment elementsFrom nOf byteOf fielded payload payloadsFrom flatMap lineText decimalIn wordsOf words
+said = refl

@@ -1,21 +1,39 @@
--- A run of the steps writes what `pack` is to write (G2 to G4, G6). Assumes nothing.
-use mathlib.Core.Path.{_≡_, refl, sym, ap, ap₂, _∙_}
-use Prim.Native.Nat.{ℕ, zero, suc, _+_, _-_}
+-- A run of the steps writes and says what `pack` is to write and to say (G2 to G4, G6, G7). Assumes nothing.
+use mathlib.Core.Path.{_≡_, refl, sym, ap, _∙_}
+use Prim.Native.Nat.{ℕ, zero, suc, _+_, _-_, _*_, _≤_, _<_}
 use native.Mathlib.Omega.{arith}
-use mathlib.Core.List.{List, [], _∷_, _++_, flatMap}
+use mathlib.Core.List.{List, [], _∷_, _++_, append-nil, append-assoc, flatMap}
 use mathlib.Core.Bool.{Bool, true, false, cond}
-use lib.ListN.{length, take, drop}
-use lib.Seq.{take-take, take-append-seam}
+use lib.ListN.{length, take, drop, length-drop}
+use lib.Seq.{drop-nil, drop-drop, take-take, take-at, length-take-le}
 use lib.Dec.{ltb}
-use borrow.Author.Tests.{le-ltb}
+use borrow.Author.Tests.{ltb-false, le-ltb}
 use Rattle.base.specs.Answers.{Answer, given, refused}
 use Rattle.base.specs.Lists.{front}
 use Rattle.base.proofs.Lists.{short-front, flatMap-append}
-use Rattle.payloader.specs.Payload.{payloadsOf}
+use Rattle.base.proofs.Tests.{split-on}
+use Rattle.obu.specs.Unit.{obusOf, listed}
+use Rattle.packetizer.specs.Call.{mtuLimit, unitPlan, planned}
+use Rattle.payloader.specs.Payload.{payloadsOf, joined}
+use Rattle.payloader.specs.Call.{written}
 use Rattle.payloader.specs.declared.Payloads.{Payloads}
 use Rattle.train.specs.Train.{lengthWidth, Packet, recordBytes, trainVersion}
-use Rattle.packing.specs.Pack.{listRecords, outputBytes, headWidth, unitWidth, Head, found, none, headIn, Length, over, stated, cut, lengthIn, nextNumber, numbered, numberAfter, recordsOf, answerIn, cutShort, packedBy, unitIn, storeAfter, Units, stopped, cutAt, withUnit, withLength, unitsFrom, unitsBy, packOf, trainBy}
-use Rattle.packing.specs.Run.{goOn, runBy, runFrom, runHeaded, runOf}
+use Rattle.turns.specs.Text.{lineText}
+use Rattle.turns.specs.Orders as orders
+use Rattle.turns.specs.Orders.{nextCount, Told, asks, says}
+use Rattle.turns.specs.Loop.{Output, nothing, also, loop}
+use Rattle.turns.specs.declared.Subject.{Subject}
+use Rattle.turns.specs.declared.Word.{Word}
+use Rattle.packing.specs.Pack.{listRecords, outputBytes, headWidth, unitWidth, Head, found, none, headIn, Length, over, stated, cut, lengthIn, nextNumber, numbered, numberAfter, recordsOf, answerIn, cutShort, packedBy, unitIn, Units, stopped, cutAt, withUnit, withLength, unitsFrom, unitsBy, packOf, trainBy, saidAt, saidBy, packSays}
+use Rattle.packing.specs.Steps.{awaits, startsWith, headTold, lengthTold, unitTold, begins, after}
+use Rattle.packing.specs.Run.{pack, runOf}
+use Rattle.packing.specs.declared.unit.Progress.{Progress}
+use Rattle.packing.specs.declared.Wait.the-variants as wait
+use Rattle.packing.specs.declared.Place.{Place}
+use Rattle.packing.proofs.Recording.{payloads-count}
+
+abbrev run : ℕ → Told Place → List ℕ → List ℕ → Output
+run = loop pack
 
 -- ---- what came decides as the whole does
 
@@ -33,6 +51,37 @@ unfolding lengthIn
 length-front [] = refl
 length-front (b ∷ l) = rw (short-front unitWidth (b ∷ l), take-take 3 3 l (omega arith))
 
+-- a length that is stated is there whole
+stated-there : (l : List ℕ) (s : ℕ) → lengthIn l ≡ stated s → unitWidth ≤ length l
+unfolding lengthIn
+stated-there [] s e = let z : _≡_ {A = ℕ} 0 1 = cc in absurd (omega arith)
+stated-there (b ∷ l) s e = split-on (ltb (length (b ∷ l)) unitWidth)
+    (λ t.
+    let f : cut ≡ stated s = rw t at e in
+    let z : _≡_ {A = ℕ} 0 1 = cc in
+    absurd (omega arith))
+    (λ t. ltb-false (length (b ∷ l)) unitWidth t)
+
+-- ---- a unit that is packed has no more packets than its list holds
+
+module _ (mtu : ℕ) (u : List ℕ) (p : Payloads) where
+  by-planned : (a : Answer ℕ) → given p ≡ written (joined (payloadsOf mtu u)) outputBytes (planned (unitPlan mtu u) listRecords a) → length (unitPlan mtu u) ≤ listRecords
+  by-planned (refused k at) e = let z : _≡_ {A = ℕ} 0 1 = cc in absurd (omega arith)
+  by-planned (given n) e = split-on (ltb listRecords (length (unitPlan mtu u)))
+      (λ t.
+      let f : given p ≡ refused 9 0 = rw t at e in
+      let z : _≡_ {A = ℕ} 0 1 = cc in
+      absurd (omega arith))
+      (λ t. ltb-false listRecords (length (unitPlan mtu u)) t)
+
+  packets-most : given p ≡ answerIn listRecords listRecords outputBytes mtu u → length (payloadsOf mtu u) ≤ listRecords
+  packets-most e = split-on (ltb mtuLimit mtu)
+      (λ t.
+      let f : given p ≡ refused 1 0 = rw t at e in
+      let z : _≡_ {A = ℕ} 0 1 = cc in
+      absurd (omega arith))
+      (λ t. omega (arith, by-planned (listed listRecords u) (rw t at e), payloads-count u (obusOf u) 0 (unitPlan mtu u)))
+
 -- ---- the units, and their records
 
 pub numbered-append : (n : ℕ) (ps qs : List (List ℕ)) → numbered n (ps ++ qs) ≡ numbered n ps ++ numbered (numberAfter n ps) qs
@@ -40,59 +89,185 @@ unfolding numbered numberAfter
 numbered-append n [] qs = refl
 numbered-append n (p ∷ ps) qs = ap (λ (l : List Packet). record { number = n; payload = p } ∷ l) (numbered-append (nextNumber n) ps qs)
 
+-- ---- the end of a run
+
+run-ends : (n : ℕ) (p : Place) (s l : List ℕ) → run n (orders.ends p) s l ≡ nothing
+unfolding loop
+run-ends zero p s l = refl
+run-ends (suc n) p s l = refl
+
+-- a line is said, and the run is over
+run-says : (n : ℕ) → 1 ≤ n → (p : Place) (x : Subject) (w : Word) (s l : List ℕ) → run n (says (awaits p wait.Nothing) x w 0) s l ≡ record { written = []; said = lineText x w }
+unfolding loop
+run-says zero h p x w s l = absurd (omega arith)
+run-says (suc n) h p x w s l =
+    ap (also [] (lineText x w)) (run-ends n (awaits p wait.Nothing) _ l)
+    ∙ ap (λ (said : List ℕ). record { written = []; said = said }) (append-nil (lineText x w))
+
 module _ (mtu : ℕ) where
   -- the records of units, the first packet of which has the number n
-  abbrev records : ℕ → List (List ℕ) → List ℕ
-  records n units = recordsOf n (flatMap (payloadsOf mtu) units)
+  abbrev records-of : ℕ → List (List ℕ) → List ℕ
+  records-of n units = recordsOf n (flatMap (payloadsOf mtu) units)
 
   records-more : (n : ℕ) (u : List ℕ) (us : List (List ℕ))
-      → records n (u ∷ us) ≡ recordsOf n (payloadsOf mtu u) ++ records (numberAfter n (payloadsOf mtu u)) us
+      → records-of n (u ∷ us) ≡ recordsOf n (payloadsOf mtu u) ++ records-of (numberAfter n (payloadsOf mtu u)) us
   unfolding flatMap
   records-more n u us =
       ap (flatMap (recordBytes lengthWidth)) (numbered-append n (payloadsOf mtu u) (flatMap (payloadsOf mtu) us))
       ∙ flatMap-append (recordBytes lengthWidth) (numbered n (payloadsOf mtu u)) (numbered (numberAfter n (payloadsOf mtu u)) (flatMap (payloadsOf mtu) us))
 
-  -- ---- one step, and then the rest
+  -- what is to come of units, the first packet of which has the number n
+  abbrev outputFor : ℕ → Units → Output
+  outputFor n u = record { written = records-of n (u .units); said = saidAt (u .stop) }
 
-  module _ (i n : ℕ) (store : List ℕ) (rest : ℕ → List ℕ → List ℕ) (after : Units) (again : (m : ℕ) (t : List ℕ) → rest m t ≡ records m (after .units)) where
-    by-answer : (u : List ℕ) (a : Answer Payloads)
-        → goOn (storeAfter (packedBy n (payloadsOf mtu u) a) (recordsOf n (payloadsOf mtu u)) store) (packedBy n (payloadsOf mtu u) a) rest
-        ≡ records n (withUnit i u a after .units)
+  -- the units of bytes that begin with a unit
+  abbrev units-at : ℕ → List ℕ → Units
+  units-at i l = unitsFrom mtu i l 0
+
+  units-skip : (i : ℕ) (l : List ℕ) (skip : ℕ) → unitsFrom mtu i l skip ≡ units-at i (drop skip l)
+  unfolding unitsFrom
+  units-skip i [] skip = rw (drop-nil skip)
+  units-skip i (b ∷ l) zero = refl
+  units-skip i (b ∷ l) (suc skip) = units-skip i l skip
+
+  with-same : (i : ℕ) (l : List ℕ) (x : Length) (f g : ℕ → Units) → ((s : ℕ) → f (unitWidth + s) ≡ g (unitWidth + s)) → withLength mtu i l x f ≡ withLength mtu i l x g
+  with-same i l over f g h = refl
+  with-same i l cut f g h = refl
+  with-same i l (stated s) f g h =
+      ap (λ (u : Units). cond (ltb (length (drop unitWidth l)) s) (stopped (cutAt i)) (withUnit i (take s (drop unitWidth l)) (answerIn listRecords listRecords outputBytes mtu (take s (drop unitWidth l))) u)) (h s)
+
+  -- the unit at the front, and then the rest
+  units-step : (i : ℕ) (l : List ℕ) → units-at i l ≡ withLength mtu i l (lengthIn l) (λ span. units-at (nextCount i) (drop span l))
+  unfolding unitsFrom lengthIn
+  units-step i [] = refl
+  units-step i (b ∷ l) =
+      with-same i (b ∷ l) (lengthIn (b ∷ l)) _ _
+      (λ s.
+      let e : suc (unitWidth + s - 1) ≡ unitWidth + s = omega arith in
+      units-skip (nextCount i) l (unitWidth + s - 1) ∙ ap (λ (k : ℕ). units-at (nextCount i) (drop k (b ∷ l))) e)
+
+  -- ---- from a unit on
+
+  -- unit i is next, and n the next number; so many bytes of it are read; packets of it are written
+  abbrev before : ℕ → ℕ → Place
+  before i n = record { wait = wait.Length; count = i; mtu = mtu; number = n }
+
+  abbrev within : ℕ → ℕ → ℕ → Place
+  within i n s = awaits (before i n) (wait.Unit s)
+
+  abbrev amid : ℕ → ℕ → Progress → Place
+  amid i n g = awaits (before i n) (wait.Packets g)
+
+  -- a run of so many turns does it, whatever the store holds
+  abbrev Comes : ℕ → ℕ → List ℕ → Type 0
+  Comes turns i l = (n : ℕ) (s w : List ℕ) → run turns (asks (before i n) w unitWidth) s l ≡ also w [] (outputFor n (units-at i l))
+
+  -- so does one of fewer turns than `most`, if they are enough
+  abbrev Enough : ℕ → ℕ → ℕ → List ℕ → Type 0
+  Enough most need i l = (turns : ℕ) → turns < most → need ≤ turns → Comes turns i l
+
+  -- ---- the packets of a unit
+
+  module _ (i most need : ℕ) (u s l : List ℕ) (again : Enough most need (nextCount i) l) where
+    abbrev packetsThen : ℕ → List (List ℕ) → Output
+    packetsThen n ps =
+        record {
+          written = recordsOf n ps ++ records-of (numberAfter n ps) (units-at (nextCount i) l .units);
+          said = saidAt (units-at (nextCount i) l .stop);
+        }
+
+    run-packets : (ps : List (List ℕ)) (turns : ℕ) (n : ℕ) (g : Progress) (w : List ℕ) → take (g .unit) s ≡ u → drop (g .packet) (payloadsOf mtu u) ≡ ps
+        → turns ≤ most → length ps + 1 + need ≤ turns → run turns (asks (amid i n g) w 0) s l ≡ also w [] (packetsThen n ps)
+    unfolding loop numbered numberAfter flatMap
+    run-packets ps zero n g w e f h k = absurd (omega arith)
+    run-packets [] (suc turns) n g w e f h k =
+        ap (also w [])
+        (rw (e, f) (again turns (omega arith) (omega arith) n s []))
+    run-packets (x ∷ ps) (suc turns) n g w e f h k =
+        let rest : drop (g .packet + 1) (payloadsOf mtu u) ≡ ps = sym (drop-drop 1 (g .packet) (payloadsOf mtu u)) ∙ ap (drop 1) f in
+        ap (also w [])
+        (rw (e, f) (run-packets ps turns (nextNumber n) (after g (length x)) (recordBytes lengthWidth (record { number = n; payload = x })) e rest (omega arith) (omega arith)
+        ∙ ap (λ (a : List ℕ). record { written = a; said = saidAt (units-at (nextCount i) l .stop) })
+        (sym (append-assoc (recordBytes lengthWidth (record { number = n; payload = x })) (recordsOf (nextNumber n) ps) (records-of (numberAfter (nextNumber n) ps) (units-at (nextCount i) l .units))))))
+
+  -- ---- one unit, of s bytes, of which those of u were read
+
+  module _ (i most need : ℕ) (l : List ℕ) (again : Enough most need (nextCount i) l) (turns n s : ℕ) (enough : turns ≤ most) (some : listRecords + 2 + need ≤ turns) where
+    by-answer : (u store : List ℕ) → take s store ≡ u → (a : Answer Payloads) → a ≡ answerIn listRecords listRecords outputBytes mtu u
+        → run turns (unitTold (within i n s) s (packedBy (payloadsOf mtu u) a)) store l ≡ outputFor n (withUnit i u a (units-at (nextCount i) l))
     unfolding flatMap numbered
-    by-answer u (refused k at) = refl
-    by-answer u (given p) =
-        let r = recordsOf n (payloadsOf mtu u) in
-        ap₂ _++_ (take-append-seam r (drop (length r) store)) (again (numberAfter n (payloadsOf mtu u)) (front r store))
-        ∙ sym (records-more n u (after .units))
+    by-answer u store e (refused k at) f = run-says turns (omega arith) (within i n s) _ _ store l
+    by-answer u store e (given p) f =
+        run-packets i most need u store l again (payloadsOf mtu u) turns n (begins s (length (payloadsOf mtu u))) [] e refl enough (omega (arith, packets-most mtu u p f))
+        ∙ ap (λ (a : List ℕ). record { written = a; said = saidAt (units-at (nextCount i) l .stop) }) (sym (records-more n u (units-at (nextCount i) l .units)))
 
-    by-unit : (s : ℕ) (l : List ℕ) (t : Bool) → let u = cond t cutShort (packedBy n (payloadsOf mtu (take s l)) (answerIn listRecords listRecords outputBytes mtu (take s l))) in
-        goOn (storeAfter u (recordsOf n (payloadsOf mtu (take s l))) store) u rest
-        ≡ records n (cond t (stopped (cutAt i)) (withUnit i (take s l) (answerIn listRecords listRecords outputBytes mtu (take s l)) after) .units)
+    by-unit : (u store : List ℕ) (t : Bool) → (t ≡ false → take s store ≡ u)
+        → run turns (unitTold (within i n s) s (cond t cutShort (packedBy (payloadsOf mtu u) (answerIn listRecords listRecords outputBytes mtu u)))) store l
+        ≡ outputFor n (cond t (stopped (cutAt i)) (withUnit i u (answerIn listRecords listRecords outputBytes mtu u) (units-at (nextCount i) l)))
     unfolding flatMap numbered
-    by-unit s l true = refl
-    by-unit s l false = by-answer (take s l) (answerIn listRecords listRecords outputBytes mtu (take s l))
+    by-unit u store true e = run-says turns (omega arith) (within i n s) _ _ store l
+    by-unit u store false e = by-answer u store (e refl) (answerIn listRecords listRecords outputBytes mtu u) refl
 
-  by-length : (i n : ℕ) (store l : List ℕ) (rest : ℕ → ℕ → List ℕ → List ℕ) (after : ℕ → Units)
-      → ((span m : ℕ) (t : List ℕ) → rest span m t ≡ records m (after span .units))
-      → (x : Length) → runBy mtu n store l x rest ≡ records n (withLength mtu i l x after .units)
-  unfolding unitIn flatMap numbered
-  by-length i n store l rest after again over = refl
-  by-length i n store l rest after again cut = refl
-  by-length i n store l rest after again (stated s) =
-      rw (take-take s s (drop unitWidth l) (omega arith), short-front s (drop unitWidth l))
-      (by-unit i n store (rest (unitWidth + s)) (after (unitWidth + s)) (again (unitWidth + s)) s (drop unitWidth l) (ltb (length (drop unitWidth l)) s))
+  -- ---- by the length that was read
 
-  run-units : (i n : ℕ) (store l : List ℕ) (skip : ℕ) → runFrom mtu n store l skip ≡ records n (unitsFrom mtu i l skip .units)
-  unfolding runFrom unitsFrom flatMap numbered
-  run-units i n store [] skip = refl
-  run-units i n store (b ∷ l) (suc skip) = run-units i n store l skip
-  run-units i n store (b ∷ l) zero =
-      rw (length-front (b ∷ l))
-      (by-length i n store (b ∷ l) _ _ (λ span m t. run-units (i + 1) m t l (span - 1)) (lengthIn (b ∷ l)))
+  module _ (i n : ℕ) (s l : List ℕ) (turns need : ℕ) (some : 2 ≤ turns)
+      (again : (m : ℕ) → lengthIn (take unitWidth l) ≡ stated m → (listRecords + 3 + need ≤ turns) × Enough turns need (nextCount i) (drop m (drop unitWidth l))) where
+    units-by : (x : Length) → lengthIn (take unitWidth l) ≡ x → units-at i l ≡ withLength mtu i l x (λ span. units-at (nextCount i) (drop span l))
+    units-by x e = units-step i l ∙ ap (λ (y : Length). withLength mtu i l y (λ span. units-at (nextCount i) (drop span l))) (sym (length-front l) ∙ e)
 
-pub run-packs : (store input : List ℕ) → runOf store input ≡ packOf input
-run-packs store input = ap (runHeaded store (drop headWidth input)) (head-front input) ∙ go (headIn input)
+    rest-units : (m : ℕ)
+        → withLength mtu i l (stated m) (λ span. units-at (nextCount i) (drop span l))
+        ≡ cond (ltb (length (drop unitWidth l)) m) (stopped (cutAt i))
+        (withUnit i (take m (drop unitWidth l)) (answerIn listRecords listRecords outputBytes mtu (take m (drop unitWidth l))) (units-at (nextCount i) (drop m (drop unitWidth l))))
+    rest-units m = rw (drop-drop m unitWidth l)
+
+    by-length : (k : ℕ) → k ≡ turns → (x : Length) → lengthIn (take unitWidth l) ≡ x → run k (lengthTold (before i n) x) s (drop unitWidth l) ≡ outputFor n (units-at i l)
+    unfolding loop unitIn flatMap numbered
+    by-length k q over e = run-ends k (awaits (before i n) wait.Nothing) _ _ ∙ sym (ap (outputFor n) (units-by over e))
+    by-length k q cut e = run-says k (omega arith) (before i n) _ _ s _ ∙ sym (ap (outputFor n) (units-by cut e))
+    by-length zero q (stated m) e = absurd (omega arith)
+    by-length (suc k) q (stated m) e =
+        let r = drop unitWidth l in
+        let a = again m e in
+        ap (also [] [])
+        (rw (take-take m m r (omega arith), short-front m r)
+        (by-unit i turns need (drop m r) (a .1) k n m (omega arith) (omega (arith, a .0)) (take m r) (front (take m r) s) (ltb (length r) m)
+        (λ t. take-at (take m r) (drop (length (take m r)) s) m (length-take-le m r (ltb-false (length r) m t)))))
+        ∙ sym (ap (outputFor n) (units-by (stated m) e ∙ rest-units m))
+
+  -- ---- all units
+
+  -- turns for each byte, as many as a unit's packets, and a few more
+  abbrev turnsFor : List ℕ → ℕ
+  turnsFor l = 600 * length l + 4
+
+  run-units : (most turns : ℕ) → turns ≤ most → (i : ℕ) (l : List ℕ) → turnsFor l ≤ turns → Comes turns i l
+  unfolding loop
+  run-units zero turns b i l a n s w = absurd (omega arith)
+  run-units (suc most) zero b i l a n s w = absurd (omega arith)
+  run-units (suc most) (suc turns) b i l a n s w =
+      ap (also w [])
+      (by-length i n (front (take unitWidth l) s) l turns (600 * (length l - 1)) (omega arith)
+      (λ m e.
+      let there = stated-there l m (sym (length-front l) ∙ e) in
+      let less : turnsFor (drop m (drop unitWidth l)) ≤ 600 * (length l - 1) = omega (arith, length-drop unitWidth l, length-drop m (drop unitWidth l)) in
+      (omega arith, λ j p q. run-units most j (omega arith) (nextCount i) (drop m (drop unitWidth l)) (omega arith)))
+      turns refl (lengthIn (take unitWidth l)) refl)
+
+-- ---- the input
+
+-- whatever the store holds, and with enough turns
+pub run-packs : (turns : ℕ) (s input : List ℕ) → 600 * length input + 5 ≤ turns → runOf turns s input ≡ record { written = packOf input; said = packSays input }
+unfolding loop
+run-packs zero s input h = absurd (omega arith)
+run-packs (suc n) s input h = ap By (head-front input) ∙ go (headIn input)
   where
-    go : (x : Head) → runHeaded store (drop headWidth input) x ≡ trainBy (unitsBy (drop headWidth input) x .units) x
-    go (found h) = ap (λ (l : List ℕ). trainVersion ∷ l) (run-units (h .mtu) 0 (h .first) store (drop headWidth input) 0)
-    go none = refl
+    By : Head → Output
+    By x = also [] [] (run n (headTold (startsWith .place) x) (front (take headWidth input) s) (drop headWidth input))
+
+    go : (x : Head) → By x ≡ record { written = trainBy (unitsBy (drop headWidth input) x .units) x; said = saidBy (unitsBy (drop headWidth input) x .stop) x }
+    go none = ap (also [] []) (run-says n (omega arith) (startsWith .place) _ _ _ _)
+    go (found x) =
+        ap (also [] [])
+        (run-units (x .mtu) n n (omega arith) 0 (drop headWidth input) (omega (arith, length-drop headWidth input))
+        (x .first) (front (take headWidth input) s) (trainVersion ∷ []))

@@ -1,3 +1,4 @@
 pub mod Pack
+pub mod Steps
 pub mod Run
 pub mod Paper

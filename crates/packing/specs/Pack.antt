@@ -1,11 +1,10 @@
--- `pack` as a function on bytes: from its input to the train that it writes (G1 to G4, G6, L12 to L14, T1, T2).
+-- `pack` as functions on bytes: from its input to the train that it writes, and to what it says (G1 to G4, G6, G7, L12 to L14, T1, T2).
 use Prim.Native.Nat.{ℕ, zero, suc, _+_, _-_, _%_}
 use mathlib.Core.List.{List, [], _∷_, flatMap}
 use mathlib.Core.Bool.{cond, not, _||_}
 use lib.ListN.{length, getD, take, drop}
 use lib.Dec.{ltb, eqb}
 use Rattle.base.specs.Answers.{Answer, given, refused}
-use Rattle.base.specs.Lists.{front}
 use Rattle.obu.specs.Unit.{listed}
 use Rattle.packetizer.specs.Call.{mtuLimit, unitPlan, planned}
 use Rattle.payloader.specs.Payload.{payloadsOf, joined}
@@ -13,8 +12,11 @@ use Rattle.payloader.specs.Call.{written}
 use Rattle.payloader.specs.declared.Payloads.{Payloads}
 use Rattle.train.specs.Bytes.{valueOf}
 use Rattle.train.specs.Train.{trainVersion, lengthWidth, Packet, recordBytes, trainOf}
-use Rattle.packing.specs.declared.PackHead.{PackHead}
-use Rattle.packing.specs.declared.Records.{Records}
+use Rattle.turns.specs.Text.{lineText}
+use Rattle.turns.specs.Orders.{nextCount}
+use Rattle.turns.specs.declared.Subject.the-variants as subject
+use Rattle.turns.specs.declared.Word.the-variants as word
+use Rattle.packing.specs.declared.input.PackHead.{PackHead}
 
 -- L12 to L14: the bytes of a unit, the records of each list, the bytes of the output
 abbrev pub unitStore : ℕ
@@ -87,26 +89,19 @@ answerIn obus packets bytes mtu unit =
     written (joined (payloadsOf mtu unit)) bytes
     (cond (ltb mtuLimit mtu) (refused 1 0) (planned (unitPlan mtu unit) packets (listed obus unit)))
 
--- a unit is cut, or refused with a number, or it has records: how many bytes, and the number after them
+-- a unit is cut, or refused with a number, or packed, into so many packets
 pub data Unit′ : Type 0 where
   cutShort : Unit′
   refusedBy : ℕ → Unit′
-  packed : Records → Unit′
+  packed : ℕ → Unit′
 
-abbrev pub packedBy : ℕ → List (List ℕ) → Answer Payloads → Unit′
-packedBy n payloads (given p) = packed (record { bytes = length (recordsOf n payloads); next = numberAfter n payloads })
-packedBy n payloads (refused k at) = refusedBy k
+abbrev pub packedBy : List (List ℕ) → Answer Payloads → Unit′
+packedBy payloads (given p) = packed (length payloads)
+packedBy payloads (refused k at) = refusedBy k
 
 -- the unit of s bytes at the front of some bytes, which the payload call answers so
-unfoldable pub unitIn : (ℕ → List ℕ → Answer Payloads) → ℕ → ℕ → ℕ → List ℕ → Unit′
-unitIn answer mtu n s l =
-    cond (ltb (length l) s) cutShort (packedBy n (payloadsOf mtu (take s l)) (answer mtu (take s l)))
-
--- a store after it: the records first, or as it was
-abbrev pub storeAfter : Unit′ → List ℕ → List ℕ → List ℕ
-storeAfter cutShort records l = l
-storeAfter (refusedBy k) records l = l
-storeAfter (packed r) records l = front records l
+unfoldable pub unitIn : (ℕ → List ℕ → Answer Payloads) → ℕ → ℕ → List ℕ → Unit′
+unitIn answer mtu s l = cond (ltb (length l) s) cutShort (packedBy (payloadsOf mtu (take s l)) (answer mtu (take s l)))
 
 -- ---- all units, up to the end or to the first that is cut or refused
 
@@ -141,7 +136,7 @@ withLength mtu i l (stated s) rest =
 unfoldable pub unitsFrom : ℕ → ℕ → List ℕ → ℕ → Units
 unitsFrom mtu i [] skip = stopped ended
 unitsFrom mtu i (b ∷ l) (suc skip) = unitsFrom mtu i l skip
-unitsFrom mtu i (b ∷ l) zero = withLength mtu i (b ∷ l) (lengthIn (b ∷ l)) (λ span. unitsFrom mtu (i + 1) l (span - 1))
+unitsFrom mtu i (b ∷ l) zero = withLength mtu i (b ∷ l) (lengthIn (b ∷ l)) (λ span. unitsFrom mtu (nextCount i) l (span - 1))
 
 abbrev pub unitsBy : List ℕ → Head → Units
 unitsBy l (found h) = unitsFrom (h .mtu) 0 l 0
@@ -163,3 +158,18 @@ trainBy units none = []
 
 abbrev pub packOf : List ℕ → List ℕ
 packOf input = trainBy (unitsIn input .units) (headIn input)
+
+-- ---- what is said of it (G6, G7): that it has no head, or why it stops
+
+abbrev pub saidAt : Stop → List ℕ
+saidAt ended = []
+saidAt (cutAt i) = lineText (subject.Unit i) word.Cut
+saidAt (refusedAt i k) = lineText (subject.Unit i) (word.Refused k)
+
+abbrev pub saidBy : Stop → Head → List ℕ
+saidBy stop (found h) = saidAt stop
+saidBy stop none = lineText subject.Input word.NoHead
+
+-- all on standard error
+abbrev pub packSays : List ℕ → List ℕ
+packSays input = saidBy (unitsIn input .stop) (headIn input)

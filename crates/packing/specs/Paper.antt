@@ -1,12 +1,12 @@
 -- What each answer of the code stands for.
 use Rattle.base.specs.Refusals.{numberOf}
 use Rattle.packing.specs.Pack as pack
-use Rattle.packing.specs.declared.PackHeadRead.{PackHeadRead}
-use Rattle.packing.specs.declared.PackHeadRead.the-variants as head
-use Rattle.packing.specs.declared.UnitLength.{UnitLength}
-use Rattle.packing.specs.declared.UnitLength.the-variants as length
-use Rattle.packing.specs.declared.UnitAnswer.{UnitAnswer}
-use Rattle.packing.specs.declared.UnitAnswer.the-variants as unit
+use Rattle.packing.specs.declared.input.PackHeadRead.{PackHeadRead}
+use Rattle.packing.specs.declared.input.PackHeadRead.the-variants as head
+use Rattle.packing.specs.declared.input.UnitLength.{UnitLength}
+use Rattle.packing.specs.declared.input.UnitLength.the-variants as length
+use Rattle.packing.specs.declared.unit.UnitAnswer.{UnitAnswer}
+use Rattle.packing.specs.declared.unit.UnitAnswer.the-variants as unit
 
 abbrev pub paperHead : PackHeadRead → pack.Head
 paperHead (head.Head h) = pack.found h
@@ -20,4 +20,4 @@ paperLength length.Cut = pack.cut
 abbrev pub paperUnit : UnitAnswer → pack.Unit′
 paperUnit unit.Cut = pack.cutShort
 paperUnit (unit.Refused r) = pack.refusedBy (numberOf r)
-paperUnit (unit.Packed r) = pack.packed r
+paperUnit (unit.Packed n) = pack.packed n

@@ -1,40 +1,21 @@
--- A run of the steps over the bytes of an input, as the program makes it (G2 to G4, G6, G7): what it writes.
-use Prim.Native.Nat.{ℕ, zero, suc, _+_, _-_}
-use mathlib.Core.List.{List, [], _∷_, _++_}
-use lib.ListN.{take, drop}
-use Rattle.payloader.specs.Payload.{payloadsOf}
-use Rattle.train.specs.Train.{trainVersion}
-use Rattle.packing.specs.Pack.{listRecords, outputBytes, headWidth, unitWidth, Head, found, none, headIn, Length, over, stated, cut, lengthIn, recordsOf, answerIn, Unit′, cutShort, refusedBy, packed, unitIn, storeAfter}
+-- A run of `pack`: its steps in the loop of every program.
+use Prim.Native.Nat.{ℕ}
+use mathlib.Core.List.{List}
+use Rattle.base.specs.Lists.{front}
+use Rattle.turns.specs.Orders.{Arrival, bytes, readFailed, writeFailed}
+use Rattle.turns.specs.Loop.{Output, Program, loop}
+use Rattle.packing.specs.Steps.{startsWith, told}
+use Rattle.packing.specs.declared.Place.{Place}
 
--- after a step, which left the store so: the records that stand first are written, and the rest of the run has the next number
-abbrev pub goOn : List ℕ → Unit′ → (ℕ → List ℕ → List ℕ) → List ℕ
-goOn store cutShort rest = []
-goOn store (refusedBy k) rest = []
-goOn store (packed r) rest = take (r .bytes) store ++ rest (r .next) store
+-- what arrives stands at the front of the input's store
+abbrev pub inputAfter : Arrival → List ℕ → List ℕ
+inputAfter (bytes l) input = front l input
+inputAfter readFailed input = input
+inputAfter writeFailed input = input
 
--- the step on a unit of s bytes, of which these were read
-abbrev pub stepIn : ℕ → ℕ → ℕ → List ℕ → Unit′
-stepIn = unitIn (answerIn listRecords listRecords outputBytes)
+abbrev pub pack : Program Place (List ℕ)
+pack = record { step = λ p a s. told p a (inputAfter a s); after = λ p a s. inputAfter a s }
 
--- by the length of the unit at the front, of which so many bytes are read; the rest begins after them
-abbrev pub runBy : ℕ → ℕ → List ℕ → List ℕ → Length → (ℕ → ℕ → List ℕ → List ℕ) → List ℕ
-runBy mtu n store l over rest = []
-runBy mtu n store l cut rest = []
-runBy mtu n store l (stated s) rest =
-    let unit = take s (drop unitWidth l) in
-    goOn (storeAfter (stepIn mtu n s unit) (recordsOf n (payloadsOf mtu (take s unit))) store) (stepIn mtu n s unit) (rest (unitWidth + s))
-
--- the units of some bytes, the first `skip` of which belong to the unit before, from the number n on
-unfoldable pub runFrom : ℕ → ℕ → List ℕ → List ℕ → ℕ → List ℕ
-runFrom mtu n store [] skip = []
-runFrom mtu n store (b ∷ l) (suc skip) = runFrom mtu n store l skip
-runFrom mtu n store (b ∷ l) zero =
-    runBy mtu n store (b ∷ l) (lengthIn (take unitWidth (b ∷ l))) (λ span next t. runFrom mtu next t l (span - 1))
-
--- the whole input, with the store as it is at the start
-abbrev pub runHeaded : List ℕ → List ℕ → Head → List ℕ
-runHeaded store l (found h) = trainVersion ∷ runFrom (h .mtu) (h .first) store l 0
-runHeaded store l none = []
-
-abbrev pub runOf : List ℕ → List ℕ → List ℕ
-runOf store input = runHeaded store (drop headWidth input) (headIn (take headWidth input))
+-- of so many turns at most, over an input, whatever the store holds
+abbrev pub runOf : ℕ → List ℕ → List ℕ → Output
+runOf turns s input = loop pack turns startsWith s input

@@ -1,184 +1,315 @@
-// The steps of `pack`, on lent bytes: head, a unit's length, one unit to records, one record (G2 to G4, G6).
-use base::Refusal;
-use payloader::PayloadAnswer;
+// `pack` as steps on lent bytes: all that it decides (G1 to G4, G6, G7, G12, G14). The program does as each turn orders.
+mod input;
+mod unit;
+
+use input::PackHeadRead;
+use input::UnitLength;
+use turns::Came;
+use turns::Order;
+use turns::Subject;
+use turns::Word;
+use unit::Progress;
+use unit::UnitAnswer;
 ghost use mathlib.Core.Path.{_≡_};
-ghost use Prim.Native.Nat.{ℕ, _+_, _*_, _/_, _≤_, _<_};
-ghost use mathlib.Core.List.{List};
-ghost use lib.ListN.{length, getD, take, drop};
-ghost use lib.Seq.{sets};
-ghost use Rattle.obu.specs.Unit.{unitLimit, obuNumbers};
-ghost use Rattle.packetizer.specs.Plan.{planNumbers, flatPlan};
-ghost use Rattle.packetizer.specs.Call.{mtuLimit, unitPlan};
-ghost use Rattle.aggregation.specs.Header.{noPacket};
-ghost use Rattle.aggregation.specs.Flat.{packetsIn};
-ghost use Rattle.payloader.specs.Payload.{payloadsOf, joined};
-ghost use Rattle.train.specs.Bytes.{valueOf};
-ghost use Rattle.train.specs.Train.{lengthWidth, numberWidth, recordBytes};
-ghost use Rattle.packing.specs.Pack.{unitStore, headIn, lengthIn, numberAfter, recordsOf, answerIn, unitIn, storeAfter};
-ghost use Rattle.packing.specs.Paper.{paperHead, paperLength, paperUnit};
+ghost use Prim.Native.Nat.{ℕ, _≤_, _<_};
+ghost use mathlib.Core.List.{List, []};
+ghost use lib.ListN.{length};
+ghost use Rattle.base.specs.Lists.{front};
+ghost use Rattle.payloader.specs.Payload.{payloadsOf};
+ghost use Rattle.turns.specs.Text.{lineBytes};
+ghost use Rattle.turns.specs.Orders.{arrival, says};
+ghost use Rattle.packing.specs.Pack.{unitStore, outputBytes, headIn, lengthIn};
+ghost use Rattle.packing.specs.Steps.{listNumbers, recordRoom, awaits, next, readOf, writtenOf, startsWith, headTold, lengthTold, unitTold, stepIn, packetTold, told, Ready, ReadyAt, Gives, Lent};
 
 // The bytes of a unit, the records of each list, the bytes of the output (L12 to L14).
 pub const UNIT_STORE: usize = 32768;
 
-pub const LIST_RECORDS: usize = 512;
+const LIST_RECORDS: usize = 512;
 
 pub const OUTPUT_BYTES: usize = 65536;
 
-// The bytes of the head and of a unit's length, and the version byte of the input.
-pub const HEAD_WIDTH: usize = 5;
+// The numbers of each list, and more bytes than a record has.
+pub const LIST_NUMBERS: usize = LIST_RECORDS * packetizer::PLAN_NUMBERS;
 
-pub const UNIT_WIDTH: usize = 4;
+pub const RECORD_BYTES: usize = 65540;
 
-const PACK_VERSION: u8 = 1;
+// What a run waits for: the head, a unit's length, a unit of so many bytes, that the packets of a unit are written, or nothing.
+pub enum Wait {
+    Head,
+    Length,
+    Unit(usize),
+    Packets(Progress),
+    Nothing,
+}
 
-// The head of the input.
-pub struct PackHead {
+// Where a run stands: what it waits for, how many units came before, the mtu, and the next packet's number.
+pub struct Place {
+    pub wait: Wait,
+    pub count: u64,
     pub mtu: usize,
-    pub first: u16,
+    pub number: u16,
 }
 
-pub enum PackHeadRead {
-    Head(PackHead),
-    NoHead,
+// What the program does now, and where it then stands.
+pub struct Turn {
+    pub place: Place,
+    pub order: Order,
 }
 
-// The length of a unit: a cut field or a unit over the store counts as cut.
-pub enum UnitLength {
-    Stated(usize),
-    End,
-    Cut,
-}
-
-// What a unit's records take, and the number after the last of them.
-pub struct Records {
-    pub bytes: usize,
-    pub next: u16,
-}
-
-pub enum UnitAnswer {
-    Packed(Records),
-    Refused(Refusal),
-    Cut,
-}
-
-// The head of the input, or what there is of it.
-pub fn read_pack_head(bytes: &[u8]) -> PackHeadRead
-    ensures { λ r. ⌜ paperHead r ≡ headIn (now (bytes .entry)) ⌝ }
+// The same unit, with this to wait for.
+fn awaiting(place: Place, wait: Wait) -> Place
+    ensures { λ r. ⌜ r ≡ awaits place wait ⌝ }
 {
-    if bytes.len() < HEAD_WIDTH {
-        return PackHeadRead::NoHead;
+    Place {
+        wait: wait,
+        count: place.count,
+        mtu: place.mtu,
+        number: place.number,
     }
-    if bytes[0] != PACK_VERSION {
-        return PackHeadRead::NoHead;
-    }
-    PackHeadRead::Head(PackHead {
-        mtu: train::two_bytes(bytes, 1) as usize,
-        first: train::two_bytes(bytes, 3),
-    })
 }
 
-// The length of the next unit, or what there is of it.
-pub fn read_unit_length(bytes: &[u8]) -> UnitLength
-    ensures { λ r. ⌜ paperLength r ≡ lengthIn (now (bytes .entry)) ⌝ }
+// The next unit.
+fn following(place: Place) -> Place
+    ensures { λ r. ⌜ r ≡ next place ⌝ }
 {
-    if bytes.len() == 0 {
-        return UnitLength::End;
+    Place {
+        wait: Wait::Length,
+        count: turns::next_count(place.count),
+        mtu: place.mtu,
+        number: place.number,
     }
-    if bytes.len() < UNIT_WIDTH {
-        return UnitLength::Cut;
-    }
-    let stated = train::four_bytes(bytes, 0);
-    if UNIT_STORE < stated {
-        return UnitLength::Cut;
-    }
-    UnitLength::Stated(stated)
 }
 
-// How many bytes payload k has.
-fn payload_size(plan: &[u32], k: usize) -> usize
-    requires { ⌜ (k + 1) * planNumbers ≤ length (now plan) ⌝ }
-    ensures { λ r. ⌜ r ≡ getD (packetsIn (now (plan .entry))) k noPacket .«packet_size» + 1 ⌝ }
+// What a run begins with: the head is read.
+pub fn start() -> Turn
+    ensures { λ r. ⌜ Gives startsWith r [] [] ⌝ }
 {
-    let p = aggregation::packet_at(plan, k);
-    p.packet_size as usize + 1
-}
-
-// Writes one record, with a payload that stands at `from`, at the cursor `at`, and returns the cursor after it.
-fn put_record(
-    payloads: &[u8],
-    from: usize,
-    size: usize,
-    number: u16,
-    records: &mut [u8],
-    at: usize,
-) -> usize
-    requires { ⌜ (from + size ≤ length (now payloads)) × (at + (4 + size) ≤ length (now records)) × (size ≤ mtuLimit) ⌝ }
-    ensures { λ r. ⌜ (r ≡ at + (4 + size))
-        × (now (records .exit) ≡ sets (now (records .entry)) at (recordBytes lengthWidth (record { number = number; payload = take size (drop from (now (payloads .entry))) }))) ⌝ }
-{
-    let body = train::put_record_head(records, at, number, size as u16);
-    base::copy_bytes(payloads, from, size, records, body)
-}
-
-// Writes the records of a unit's packets, numbered from `number` on.
-fn put_records(
-    mtu: usize,
-    unit: &[u8],
-    plan: &[u32],
-    payloads: &[u8],
-    number: u16,
-    records: &mut [u8],
-) -> Records
-    requires { ⌜ (mtu ≤ mtuLimit) × (length (now unit) ≤ unitLimit) × (now plan ≡ flatPlan (unitPlan mtu (now unit))) × (now payloads ≡ joined (payloadsOf mtu (now unit))) ⌝ }
-    requires { ⌜ length (recordsOf number (payloadsOf mtu (now unit))) ≤ length (now records) ⌝ }
-    ensures { λ r. ⌜ (r .bytes ≡ length (recordsOf number (payloadsOf mtu (now (unit .entry)))))
-        × (r .next ≡ numberAfter number (payloadsOf mtu (now (unit .entry))))
-        × (now (records .exit) ≡ sets (now (records .entry)) 0 (recordsOf number (payloadsOf mtu (now (unit .entry))))) ⌝ }
-{
-    let packets = plan.len() / packetizer::PLAN_NUMBERS;
-    let mut at: usize = 0;
-    let mut from: usize = 0;
-    let mut next = number;
-    let mut k: usize = 0;
-    while k < packets {
-        let size = payload_size(plan, k);
-        at = put_record(payloads, from, size, next, records, at);
-        from = from + size;
-        next = std::num::wrapping_add_u16(next, 1);
-        k += 1;
-    }
-    Records {
-        bytes: at,
-        next: next,
+    Turn {
+        place: Place {
+            wait: Wait::Head,
+            count: 0,
+            mtu: 0,
+            number: 0,
+        },
+        order: turns::ask(0, input::HEAD_WIDTH),
     }
 }
 
-// The records of a unit of so many bytes, which stands at the front of the bytes given, or what there is of it.
-pub fn pack_unit(
-    mtu: usize,
-    number: u16,
+// A line is said, and the run is over.
+fn say(place: Place, subject: Subject, word: Word, line: &mut [u8]) -> Turn
+    requires { ⌜ length (now line) ≡ lineBytes ⌝ }
+    ensures { λ r. ⌜ Gives (says (awaits place Wait.Nothing) subject word 0) r (now (line .entry)) (now (line .exit)) ⌝ }
+{
+    let last = awaiting(place, Wait::Nothing);
+    Turn {
+        place: last,
+        order: turns::say(subject, word, 0, line),
+    }
+}
+
+// After the head, or what there was of it: the version byte of the train is written.
+fn head_step(place: Place, got: &[u8], written: &mut [u8], line: &mut [u8]) -> Turn
+    requires { ⌜ (length (now written) ≡ recordRoom) × (length (now line) ≡ lineBytes) ⌝ }
+    ensures { λ r. ⌜ Gives (headTold place (headIn (now (got .entry)))) r (now (line .entry)) (now (line .exit))
+        × (now (written .exit) ≡ front (headTold place (headIn (now (got .entry))) .written) (now (written .entry))) ⌝ }
+{
+    match input::read_pack_head(got) {
+        PackHeadRead::NoHead => say(place, Subject::Input, Word::NoHead, line),
+        PackHeadRead::Head(head) => {
+            written[0] = train::TRAIN_VERSION;
+            Turn {
+                place: Place {
+                    wait: Wait::Length,
+                    count: place.count,
+                    mtu: head.mtu,
+                    number: head.first,
+                },
+                order: turns::ask(1, input::UNIT_WIDTH),
+            }
+        }
+    }
+}
+
+// After a unit's length, or what there was of it.
+fn length_step(place: Place, got: &[u8], line: &mut [u8]) -> Turn
+    requires { ⌜ length (now line) ≡ lineBytes ⌝ }
+    ensures { λ r. ⌜ Gives (lengthTold place (lengthIn (now (got .entry)))) r (now (line .entry)) (now (line .exit)) ⌝ }
+{
+    match input::read_unit_length(got) {
+        UnitLength::End => Turn {
+            place: awaiting(place, Wait::Nothing),
+            order: turns::over(),
+        },
+        UnitLength::Cut => say(place, Subject::Unit(place.count), Word::Cut, line),
+        UnitLength::Stated(stated) => Turn {
+            place: awaiting(place, Wait::Unit(stated)),
+            order: turns::ask(0, stated),
+        },
+    }
+}
+
+// After a unit of so many bytes, or what there was of it.
+fn unit_step(
+    place: Place,
     stated: usize,
-    bytes: &[u8],
+    got: &[u8],
     obus: &mut [u32],
     plan: &mut [u32],
     out: &mut [u8],
-    records: &mut [u8],
-) -> UnitAnswer
-    requires { ⌜ length (now out) + 4 * (length (now plan) / planNumbers) ≤ length (now records) ⌝ }
-    ensures { λ r. ⌜ (paperUnit r ≡ unitIn (answerIn (length (now (obus .entry)) / obuNumbers) (length (now (plan .entry)) / planNumbers) (length (now (out .entry)))) mtu number stated (now (bytes .entry)))
-        × (now (records .exit) ≡ storeAfter (paperUnit r) (recordsOf number (payloadsOf mtu (take stated (now (bytes .entry))))) (now (records .entry))) ⌝ }
+    line: &mut [u8],
+) -> Turn
+    requires { ⌜ (stated ≤ unitStore) × (length (now obus) ≡ listNumbers) × (length (now plan) ≡ listNumbers) × (length (now out) ≡ outputBytes) × (length (now line) ≡ lineBytes) ⌝ }
+    ensures { λ r. ⌜ Gives (unitTold place stated (stepIn (place .mtu) stated (now (got .entry)))) r (now (line .entry)) (now (line .exit))
+        × ReadyAt (r .place) (now (got .entry)) (now (plan .exit)) (now (out .exit)) ⌝ }
 {
-    if bytes.len() < stated {
-        return UnitAnswer::Cut;
-    }
-    let unit = &bytes[..stated];
-    match payloader::payload(mtu, unit, obus, plan, out) {
-        PayloadAnswer::Refused { refusal, at } => UnitAnswer::Refused(refusal),
-        PayloadAnswer::Written(written) => {
-            let recorded = written.packets * packetizer::PLAN_NUMBERS;
-            let end = written.bytes;
-            let put = put_records(mtu, unit, &plan[..recorded], &out[..end], number, records);
-            UnitAnswer::Packed(put)
+    match unit::pack_unit(place.mtu, stated, got, obus, plan, out) {
+        UnitAnswer::Cut => say(place, Subject::Unit(place.count), Word::Cut, line),
+        UnitAnswer::Refused(refusal) => {
+            let word = Word::Refused(base::number(refusal));
+            say(place, Subject::Unit(place.count), word, line)
         }
+        UnitAnswer::Packed(packets) => {
+            let first = Progress {
+                unit: stated,
+                packets: packets,
+                packet: 0,
+                from: 0,
+            };
+            Turn {
+                place: awaiting(place, Wait::Packets(first)),
+                order: turns::ask(0, 0),
+            }
+        }
+    }
+}
+
+// The next packet of a unit, which there is: its record is written.
+fn record_turn(
+    place: Place,
+    progress: Progress,
+    unit: &[u8],
+    plan: &[u32],
+    out: &[u8],
+    written: &mut [u8],
+) -> Turn
+    requires { ⌜ Ready (place .mtu) progress (now unit) (now plan) (now out) ⌝ }
+    requires { ⌜ (progress .packet < progress .packets) × (length (now written) ≡ recordRoom) ⌝ }
+    ensures { λ r. ⌜ ((line : List ℕ) → Gives (packetTold place progress (payloadsOf (place .mtu) (now (unit .entry)))) r line line)
+        × (now (written .exit) ≡ front (packetTold place progress (payloadsOf (place .mtu) (now (unit .entry))) .written) (now (written .entry)))
+        × ReadyAt (r .place) (now (unit .entry)) (now (plan .entry)) (now (out .entry)) ⌝ }
+{
+    let packets = progress.packets;
+    let filled = packets * packetizer::PLAN_NUMBERS;
+    let k = progress.packet;
+    let from = progress.from;
+    let size = unit::payload_size(&plan[..filled], k);
+    let end = unit::put_record(out, from, size, place.number, written, 0);
+    let after = Progress {
+        unit: progress.unit,
+        packets: packets,
+        packet: k + 1,
+        from: from + size,
+    };
+    Turn {
+        place: Place {
+            wait: Wait::Packets(after),
+            count: place.count,
+            mtu: place.mtu,
+            number: std::num::wrapping_add_u16(place.number, 1),
+        },
+        order: turns::ask(end, 0),
+    }
+}
+
+// The next packet of a unit, or the next unit where there is none.
+fn packet_step(
+    place: Place,
+    progress: Progress,
+    unit: &[u8],
+    plan: &[u32],
+    out: &[u8],
+    written: &mut [u8],
+) -> Turn
+    requires { ⌜ Ready (place .mtu) progress (now unit) (now plan) (now out) ⌝ }
+    requires { ⌜ length (now written) ≡ recordRoom ⌝ }
+    ensures { λ r. ⌜ ((line : List ℕ) → Gives (packetTold place progress (payloadsOf (place .mtu) (now (unit .entry)))) r line line)
+        × (now (written .exit) ≡ front (packetTold place progress (payloadsOf (place .mtu) (now (unit .entry))) .written) (now (written .entry)))
+        × ReadyAt (r .place) (now (unit .entry)) (now (plan .entry)) (now (out .entry)) ⌝ }
+{
+    if progress.packet < progress.packets {
+        return record_turn(place, progress, unit, plan, out, written);
+    }
+    Turn {
+        place: following(place),
+        order: turns::ask(0, input::UNIT_WIDTH),
+    }
+}
+
+// What a run reads where it stands, for the line of a failed read.
+fn read_subject(wait: Wait, k: u64) -> Subject
+    ensures { λ r. ⌜ r ≡ readOf wait k ⌝ }
+{
+    match wait {
+        Wait::Head => Subject::Input,
+        Wait::Length => Subject::Unit(k),
+        Wait::Unit(_) => Subject::Unit(k),
+        Wait::Packets(_) => Subject::Unit(k),
+        Wait::Nothing => Subject::Unit(k),
+    }
+}
+
+// What was written before a run stands there, for the line of a failed write: the version byte, or a record of unit k.
+fn written_subject(wait: Wait, k: u64) -> Subject
+    ensures { λ r. ⌜ r ≡ writtenOf wait k ⌝ }
+{
+    match wait {
+        Wait::Head => Subject::Train,
+        Wait::Length => Subject::Train,
+        Wait::Unit(_) => Subject::Unit(k),
+        Wait::Packets(_) => Subject::Unit(k),
+        Wait::Nothing => Subject::Unit(k),
+    }
+}
+
+// The next turn, by what came of the one before: all that `pack` decides.
+pub fn step(
+    place: Place,
+    came: Came,
+    input: &[u8],
+    obus: &mut [u32],
+    plan: &mut [u32],
+    out: &mut [u8],
+    written: &mut [u8],
+    line: &mut [u8],
+) -> Turn
+    requires { ⌜ Lent place came (now input) (now obus) (now plan) (now out) (now written) (now line) ⌝ }
+    ensures { λ r. ⌜ Gives (told place (arrival came (now (input .entry))) (now (input .entry))) r (now (line .entry)) (now (line .exit))
+        × (now (written .exit) ≡ front (told place (arrival came (now (input .entry))) (now (input .entry)) .written) (now (written .entry)))
+        × ReadyAt (r .place) (now (input .entry)) (now (plan .exit)) (now (out .exit)) ⌝ }
+{
+    let wait = place.wait;
+    let count = place.count;
+    match came {
+        Came::ReadFailed => {
+            let about = read_subject(wait, count);
+            say(place, about, Word::ReadFailed, line)
+        }
+        Came::WriteFailed => {
+            let about = written_subject(wait, count);
+            say(place, about, Word::WriteFailed, line)
+        }
+        Came::Read(n) => match wait {
+            Wait::Head => head_step(place, &input[..n], written, line),
+            Wait::Length => length_step(place, &input[..n], line),
+            Wait::Unit(stated) => unit_step(place, stated, &input[..n], obus, plan, out, line),
+            Wait::Packets(progress) => {
+                let unit = progress.unit;
+                packet_step(place, progress, &input[..unit], plan, out, written)
+            }
+            Wait::Nothing => Turn {
+                place: place,
+                order: turns::over(),
+            },
+        },
     }
 }

@@ -18,7 +18,7 @@ use Rattle.element.specs.Elements.{payloadLimit, payloadElements, elementsOf, c
 use Rattle.element.specs.declared.Part.{Part}
 use Rattle.handing.specs.Handing.{fragmentLimit, before, wires}
 use Rattle.receiver.specs.Packet.{Packet, packetBy, packetOf}
-use Rattle.receiver.specs.Joining.{Held, ahead, next, out}
+use Rattle.receiver.specs.Joining.{Held, Lost, ahead, lost, next, out}
 use Rattle.receiver.specs.Call.{fitted, opened, taken}
 
 -- it is not 14
@@ -108,15 +108,15 @@ wires-other (o ∷ os) = before-other (wire o) (wires os) (wire-other o) (wires-
 
 -- ---- the call
 
-fitted-other : (space room : ℕ) (after : Held) (w : Answer (List ℕ)) → Other w → Other (fitted space room after w)
-fitted-other space room after (refused n at) h = h
-fitted-other space room after (given bytes) h =
+fitted-other : (space room : ℕ) (after : Held) (gone : Lost) (w : Answer (List ℕ)) → Other w → Other (fitted space room after gone w)
+fitted-other space room after gone (refused n at) h = h
+fitted-other space room after gone (given bytes) h =
     by-cond Other (ltb space (length (after .fragment)) || ltb fragmentLimit (length (after .fragment))) _ _
     (λ t. λ e. omega arith)
     (λ t. by-cond Other (ltb room (length bytes)) _ _ (λ u. λ e. omega arith) (λ u. tt))
 
 opened-other : (space room : ℕ) (h : Held) (number : ℕ) (x : Answer Packet) → Other x → Other (opened space room h number x)
-opened-other space room h number (given p) k = fitted-other space room (next h number p) (wires (out h number p)) (wires-other (out h number p))
+opened-other space room h number (given p) k = fitted-other space room (next h number p) (lost h number p) (wires (out h number p)) (wires-other (out h number p))
 opened-other space room h number (refused n at) k = k
 
 taken-other : (space room : ℕ) (h : Held) (number : ℕ) (payload : List ℕ) → ahead h number ≡ true → Other (taken space room h number payload)

@@ -26,7 +26,7 @@ use Rattle.handing.specs.Handing.{fragmentLimit, wires}
 use Rattle.handing.proofs.Cursors.{payload-some, payload-small}
 use Rattle.handing.proofs.Lists.{front-length}
 use Rattle.receiver.specs.Packet.{Packet, packetBy, packetOf}
-use Rattle.receiver.specs.Joining.{Held, fresh, ahead, next, out}
+use Rattle.receiver.specs.Joining.{Held, Lost, fresh, ahead, lost, next, out}
 use Rattle.receiver.specs.Call.{Taken, fitted, opened, taken, heldIn, stateOf, outcome, answered, receiveAnswer, storeBy, outputBy, storeAfter, outputAfter}
 use Rattle.receiver.specs.declared.State.{State}
 use Rattle.receiver.specs.declared.Received.{Received}
@@ -43,7 +43,7 @@ module _ (space room : ℕ) (h : Held) (number : ℕ) (payload : List ℕ) (p : 
       go (refused n at) e q = let z : _≡_ {A = ℕ} 0 1 = cc in absurd (omega arith)
 
   by-ahead : taken space room h number payload
-      ≡ cond (ahead h number) (fitted space room (next h number p) (wires (out h number p))) (refused 14 0)
+      ≡ cond (ahead h number) (fitted space room (next h number p) (lost h number p) (wires (out h number p))) (refused 14 0)
   unfolding taken
   by-ahead =
       rw (ne-eqb (length payload) 0 (λ e. omega (arith, fits)), le-ltb payloadLimit (length payload) (fits .1), read)
@@ -53,8 +53,8 @@ module _ (space room : ℕ) (h : Held) (number : ℕ) (payload : List ℕ) (p : 
 
   pub taken-all : ahead h number ≡ true → (bytes : List ℕ) → wires (out h number p) ≡ given bytes
       → length (next h number p .fragment) ≤ space → length (next h number p .fragment) ≤ fragmentLimit → length bytes ≤ room
-      → taken space room h number payload ≡ given (record { held = next h number p; bytes = bytes })
-  taken-all t bytes w a b c = by-ahead ∙ rw (t, w) (fitted-all space room (next h number p) bytes a b c)
+      → taken space room h number payload ≡ given (record { held = next h number p; bytes = bytes; lost = lost h number p })
+  taken-all t bytes w a b c = by-ahead ∙ rw (t, w) (fitted-all space room (next h number p) (lost h number p) bytes a b c)
 
 -- ---- what is taken has room
 
@@ -62,22 +62,22 @@ abbrev Fits : ℕ → ℕ → Answer Taken → Type 0
 Fits space room (given t) = (length (t .held .fragment) ≤ space) × (length (t .held .fragment) ≤ fragmentLimit) × (length (t .bytes) ≤ room)
 Fits space room (refused n at) = Unit {0}
 
-fitted-fits : (space room : ℕ) (after : Held) (w : Answer (List ℕ)) → Fits space room (fitted space room after w)
-fitted-fits space room after (refused n at) = tt
-fitted-fits space room after (given bytes) = go (ltb space n) refl (ltb fragmentLimit n) refl (ltb room (length bytes)) refl
+fitted-fits : (space room : ℕ) (after : Held) (gone : Lost) (w : Answer (List ℕ)) → Fits space room (fitted space room after gone w)
+fitted-fits space room after gone (refused n at) = tt
+fitted-fits space room after gone (given bytes) = go (ltb space n) refl (ltb fragmentLimit n) refl (ltb room (length bytes)) refl
   where
     n : ℕ
     n = length (after .fragment)
 
     go : (a : Bool) → ltb space n ≡ a → (b : Bool) → ltb fragmentLimit n ≡ b → (c : Bool) → ltb room (length bytes) ≡ c
-        → Fits space room (cond (a || b) (refused 19 0) (cond c (refused 20 0) (given (record { held = after; bytes = bytes }))))
+        → Fits space room (cond (a || b) (refused 19 0) (cond c (refused 20 0) (given (record { held = after; bytes = bytes; lost = gone }))))
     go true e b f c g = tt
     go false e true f c g = tt
     go false e false f true g = tt
     go false e false f false g = (ltb-false space n e, ltb-false fragmentLimit n f, ltb-false room (length bytes) g)
 
 opened-fits : (space room : ℕ) (h : Held) (number : ℕ) (x : Answer Packet) → Fits space room (opened space room h number x)
-opened-fits space room h number (given p) = fitted-fits space room (next h number p) (wires (out h number p))
+opened-fits space room h number (given p) = fitted-fits space room (next h number p) (lost h number p) (wires (out h number p))
 opened-fits space room h number (refused n at) = tt
 
 taken-room : (space room : ℕ) (h : Held) (number : ℕ) (payload : List ℕ) → Fits space room (taken space room h number payload)
@@ -125,8 +125,8 @@ module _ (state : State) (number : ℕ) (payload store output : List ℕ) where
     where
       go : (a : Answer Taken) → Fits (length store) (length output) a → given r ≡ answered a → r .bytes ≤ length output
       go (given t) f q =
-          let same : r ≡ record { state = stateOf (t .held); bytes = length (t .bytes) } = cc in
-          omega (arith, f .2, ap (λ (x : Received). x .bytes) same)
+          let same : r .bytes ≡ length (t .bytes) = cc in
+          omega (arith, f .2)
       go (refused n at) f q = let z : _≡_ {A = ℕ} 0 1 = cc in absurd (omega arith)
 
 pub held-again : (h : Held) (store : List ℕ) → heldIn (stateOf h) (front (h .fragment) store) ≡ h

@@ -3,11 +3,11 @@ use mathlib.Core.Path.{_≡_, refl, sym, ap, ap₂, subst, _∙_}
 use Prim.Native.Nat.{ℕ, zero, suc, _+_, _-_, _≤_, _<_}
 use native.Mathlib.Omega.{arith}
 use mathlib.Core.List.{List, [], _∷_, _++_, map}
-use mathlib.Core.Bool.{Bool, true, false, cond, _&&_}
+use mathlib.Core.Bool.{Bool, true, false, cond, not, _&&_}
 use lib.ListN.{length, getD, take, drop, length-drop, length-map, drop-of-length-le, List·getD-map}
 use lib.Seq.{getD-drop, take-length, length-take-le}
-use lib.Dec.{eqb}
-use borrow.Author.Tests.{eq-eqb, ne-eqb, eqb-true, eqb-false}
+use lib.Dec.{eqb, ltb}
+use borrow.Author.Tests.{eq-eqb, ne-eqb, eqb-true, eqb-false, lt-ltb, le-ltb}
 use Rattle.base.specs.Answers.{given}
 use Rattle.base.proofs.Tests.{by-cond, split-on}
 use Rattle.element.specs.Elements.{bytesOf, nowhere, payloadElements}
@@ -17,7 +17,7 @@ use Rattle.handing.specs.Paper.{fragmentOf}
 use Rattle.handing.specs.declared.Fragment.{Fragment}
 use Rattle.handing.proofs.Cursors.{part-at}
 use Rattle.handing.proofs.Turns.{led-none}
-use Rattle.receiver.specs.Joining.{joined, finished, left}
+use Rattle.receiver.specs.Joining.{joined, some, finished, left}
 use Rattle.receiver.specs.Inside.{thrown, finishedEnd}
 
 -- ---- the last one
@@ -113,6 +113,13 @@ unfolding joined
 joined-thrown [] = refl
 joined-thrown (e ∷ es) = sym (led-none es)
 
+and-true : (t : Bool) → t && true ≡ t
+and-true true = refl
+and-true false = refl
+
+some-take : (store : List ℕ) (size : ℕ) → size ≤ length store → some (take size store) ≡ ltb 0 size
+some-take store size h = rw (length-take-le size store h)
+
 -- z: the flag; t: in step; of the store, `size` bytes are open and k are joined; `from` elements are thrown away
 pub joined-is : (store : List ℕ) (size : ℕ) (z t : Bool) (es : List (List ℕ)) (k from : ℕ) → size ≤ length store → k ≡ cond (z && t) size 0 → from ≡ thrown z k
     → joined (cond t (take size store) []) z es ≡ led (take k store) (drop from es)
@@ -123,6 +130,19 @@ joined-is store zero true true es k from h a b = rw (b, a) (joined-thrown es)
 joined-is store (suc m) true true es k from h a b =
     rw (b, a, ne-eqb (suc m) 0 (λ z. omega arith))
     (joined-led (take (suc m) store) es (λ z. omega (arith, length-take-le (suc m) store h)))
+
+-- what is lost, from the same: fewer bytes are joined than are open; an element is thrown away
+pub lost-is : (store : List ℕ) (size : ℕ) (z t : Bool) (k from : ℕ) → size ≤ length store → k ≡ cond (z && t) size 0 → from ≡ thrown z k
+    → (some (take size store) && not (z && some (cond t (take size store) [])) ≡ ltb k size) × (z && not (some (cond t (take size store) [])) ≡ ltb 0 from)
+lost-is store size z t k from h a b = rw (b, a) (go z t size h)
+  where
+    go : (z t : Bool) (size : ℕ) → size ≤ length store
+        → (some (take size store) && not (z && some (cond t (take size store) [])) ≡ ltb (cond (z && t) size 0) size)
+        × (z && not (some (cond t (take size store) [])) ≡ ltb 0 (thrown z (cond (z && t) size 0)))
+    go false t size h = (and-true (some (take size store)) ∙ some-take store size h, refl)
+    go true false size h = (and-true (some (take size store)) ∙ some-take store size h, refl)
+    go true true zero h = (refl, refl)
+    go true true (suc m) h = rw (some-take store (suc m) h, lt-ltb 0 (suc m) (omega arith), le-ltb (suc m) (suc m) (omega arith), ne-eqb (suc m) 0 (λ z. omega arith)) (refl, refl)
 
 finished-take : (y : Bool) (js : List (List ℕ)) → finished y js ≡ take (finishedEnd y (length js)) js
 unfolding finished

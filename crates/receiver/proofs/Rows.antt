@@ -1,7 +1,7 @@
 -- The payloads of U fed back, and the receiver's refusals in their order; computed. Assumes nothing.
 use mathlib.Core.Path.{_≡_, refl}
 use Prim.Native.Nat.{ℕ, _+_, _%_}
-use mathlib.Core.Bool.{true, false}
+use mathlib.Core.Bool.{Bool, true, false}
 use mathlib.Core.List.{List, [], _∷_, _++_, map}
 use Rattle.base.specs.Answers.{Answer, given, refused}
 use Rattle.leb128.specs.Field.{fieldIn, encodeIn}
@@ -9,7 +9,7 @@ use Rattle.obu.specs.Front.{frontOf, headed}
 use Rattle.obu.specs.Wire.{wholeOf, wire}
 use Rattle.element.specs.Elements.{elementAt, untilEnd, exactly, counting, elementsOf, payloadElements}
 use Rattle.handing.specs.Handing.{wires}
-use Rattle.receiver.specs.Joining.{Held, fresh, isAhead, isInStep, joined, finished, left, handed, keptOpen, next, out}
+use Rattle.receiver.specs.Joining.{Held, fresh, isAhead, isInStep, joined, lost, finished, left, handed, keptOpen, next, out}
 use Rattle.receiver.specs.Call.{Taken, taken, outcome, receiveAnswer, storeAfter, outputAfter}
 use Rattle.receiver.specs.declared.State.{State}
 use Rattle.receiver.specs.declared.Received.{Received}
@@ -109,7 +109,8 @@ refusals :
 unfolding bad call at7 begin answers outcome taken payloadElements elementsOf counting untilEnd exactly elementAt fieldIn encodeIn isAhead isInStep joined finished left handed keptOpen next out wires wire wholeOf frontOf headed
 refusals = refl
 
--- a packet taken: thrown away where nothing is open or it is not in step; joined and left open; dropped types; the furthest that is ahead
+-- a packet taken: thrown away where nothing is open or it is not in step; joined and left open; dropped types; the furthest that is ahead;
+-- three bytes open, and then Z clear, Z not in step, Z in step; Z in step and nothing open
 good : List Given
 good =
     call begin 9 (0x90 ∷ 0x34 ∷ []) (1 ∷ []) (1 ∷ [])
@@ -118,28 +119,47 @@ good =
     ∷ call (at7 2) 8 (0x90 ∷ 0xa2 ∷ []) (0x30 ∷ 0xa1 ∷ 1 ∷ []) (1 ∷ 1 ∷ 1 ∷ 1 ∷ 1 ∷ [])
     ∷ call (at7 1) 8 (0x10 ∷ 0x10 ∷ []) (0x30 ∷ 1 ∷ []) []
     ∷ call (at7 0) 32774 (0x50 ∷ 0x78 ∷ []) (1 ∷ 1 ∷ []) []
+    ∷ call (at7 3) 8 (0x10 ∷ 0x32 ∷ 0 ∷ []) (0x30 ∷ 0xa1 ∷ 0xa2 ∷ []) (1 ∷ 1 ∷ [])
+    ∷ call (at7 3) 9 (0x90 ∷ 0xa3 ∷ []) (0x30 ∷ 0xa1 ∷ 0xa2 ∷ []) []
+    ∷ call (at7 3) 8 (0x90 ∷ 0xa3 ∷ []) (0x30 ∷ 0xa1 ∷ 0xa2 ∷ []) (1 ∷ 1 ∷ 1 ∷ 1 ∷ 1 ∷ [])
+    ∷ call (at7 0) 8 (0x90 ∷ 0xa3 ∷ []) [] []
     ∷ []
+
+-- this number taken, so many bytes open, so many handed out; whether a fragment and an element were thrown away
+got : ℕ → ℕ → ℕ → Bool → Bool → Answer Received
+got last size count fragment element =
+    given
+    (record {
+      state = record { begun = true; last = last; «open» = size };
+      bytes = count;
+      «fragment_lost» = fragment;
+      «element_lost» = element;
+    })
 
 states :
     answers good
-    ≡ given (record { state = record { begun = true; last = 9; «open» = 0 }; bytes = 0 })
-    ∷ given (record { state = record { begun = true; last = 9; «open» = 0 }; bytes = 0 })
-    ∷ given (record { state = record { begun = true; last = 8; «open» = 2 }; bytes = 0 })
-    ∷ given (record { state = record { begun = true; last = 8; «open» = 0 }; bytes = 4 })
-    ∷ given (record { state = record { begun = true; last = 8; «open» = 0 }; bytes = 0 })
-    ∷ given (record { state = record { begun = true; last = 32774; «open» = 1 }; bytes = 0 })
+    ≡ got 9 0 0 false true
+    ∷ got 9 0 0 true true
+    ∷ got 8 2 0 false false
+    ∷ got 8 0 4 false false
+    ∷ got 8 0 0 true false
+    ∷ got 32774 1 0 false false
+    ∷ got 8 0 2 true false
+    ∷ got 9 0 0 true true
+    ∷ got 8 0 5 false false
+    ∷ got 8 0 0 false true
     ∷ []
-unfolding good call at7 begin answers outcome taken payloadElements elementsOf counting untilEnd exactly elementAt fieldIn encodeIn isAhead isInStep joined finished left handed keptOpen next out wires wire wholeOf frontOf headed
+unfolding good got call at7 begin answers outcome taken payloadElements elementsOf counting untilEnd exactly elementAt fieldIn encodeIn isAhead isInStep joined lost finished left handed keptOpen next out wires wire wholeOf frontOf headed
 states = refl
 
 stores :
     map (λ (c : Given). storeAfter (c .state) (c .number) (c .payload) (c .store) (c .output)) good
-    ≡ (1 ∷ []) ∷ (0x30 ∷ 1 ∷ []) ∷ (0x30 ∷ 0xa1 ∷ 1 ∷ []) ∷ (0x30 ∷ 0xa1 ∷ 1 ∷ []) ∷ (0x30 ∷ 1 ∷ []) ∷ (0x78 ∷ 1 ∷ []) ∷ []
+    ≡ (1 ∷ []) ∷ (0x30 ∷ 1 ∷ []) ∷ (0x30 ∷ 0xa1 ∷ 1 ∷ []) ∷ (0x30 ∷ 0xa1 ∷ 1 ∷ []) ∷ (0x30 ∷ 1 ∷ []) ∷ (0x78 ∷ 1 ∷ []) ∷ (0x30 ∷ 0xa1 ∷ 0xa2 ∷ []) ∷ (0x30 ∷ 0xa1 ∷ 0xa2 ∷ []) ∷ (0x30 ∷ 0xa1 ∷ 0xa2 ∷ []) ∷ [] ∷ []
 unfolding good call at7 begin outcome taken payloadElements elementsOf counting untilEnd exactly elementAt fieldIn encodeIn isAhead isInStep joined finished left handed keptOpen next out wires wire wholeOf frontOf headed
 stores = refl
 
 outputs :
     map (λ (c : Given). outputAfter (c .state) (c .number) (c .payload) (c .store) (c .output)) good
-    ≡ (1 ∷ []) ∷ [] ∷ [] ∷ (0x32 ∷ 2 ∷ 0xa1 ∷ 0xa2 ∷ 1 ∷ []) ∷ [] ∷ [] ∷ []
+    ≡ (1 ∷ []) ∷ [] ∷ [] ∷ (0x32 ∷ 2 ∷ 0xa1 ∷ 0xa2 ∷ 1 ∷ []) ∷ [] ∷ [] ∷ (0x32 ∷ 0 ∷ []) ∷ [] ∷ (0x32 ∷ 3 ∷ 0xa1 ∷ 0xa2 ∷ 0xa3 ∷ []) ∷ [] ∷ []
 unfolding good call at7 begin outcome taken payloadElements elementsOf counting untilEnd exactly elementAt fieldIn encodeIn isAhead isInStep joined finished left handed keptOpen next out wires wire wholeOf frontOf headed
 outputs = refl

@@ -6,7 +6,7 @@ use mathlib.Core.List.{List, _++_, map}
 use mathlib.Core.Bool.{Bool, true, false, cond, _&&_}
 use lib.ListN.{length, getD, take, drop, length-append, length-map}
 use lib.Seq.{length-take-le}
-use lib.Dec.{eqb}
+use lib.Dec.{eqb, ltb}
 use borrow.Author.Tests.{lt-ltb, le-ltb}
 use Rattle.base.specs.Answers.{Answer, given, refused}
 use Rattle.base.specs.Lists.{replaced, front}
@@ -19,29 +19,29 @@ use Rattle.handing.specs.Paper.{fragmentOf}
 use Rattle.handing.specs.declared.Fragment.{Fragment}
 use Rattle.handing.proofs.Across.{across-length}
 use Rattle.receiver.specs.Packet.{packetBy, packetOf}
-use Rattle.receiver.specs.Joining.{Held, isAhead, isInStep, joinable, joined, finished, left, handed, keptOpen, next, out}
+use Rattle.receiver.specs.Joining.{Held, Lost, isAhead, isInStep, joinable, joined, lost, finished, left, handed, keptOpen, next, out}
 use Rattle.receiver.specs.Call.{Taken, fitted, opened, heldIn, answered, storeBy, outputBy}
 use Rattle.receiver.specs.Inside.{keptBytes, thrown, finishedEnd}
 use Rattle.receiver.specs.declared.State.{State}
 use Rattle.receiver.specs.declared.Received.{Received}
-use Rattle.receiver.proofs.Opens.{Left, joined-is, finished-is}
+use Rattle.receiver.proofs.Opens.{Left, joined-is, lost-is, finished-is}
 
 -- ---- R19, R20
 
-module _ (space room : ℕ) (after : Held) (bytes : List ℕ) where
-  pub fitted-store : space < length (after .fragment) → fitted space room after (given bytes) ≡ refused 19 0
+module _ (space room : ℕ) (after : Held) (gone : Lost) (bytes : List ℕ) where
+  pub fitted-store : space < length (after .fragment) → fitted space room after gone (given bytes) ≡ refused 19 0
   fitted-store h = rw (lt-ltb space (length (after .fragment)) h)
 
-  pub fitted-limit : length (after .fragment) ≤ space → fragmentLimit < length (after .fragment) → fitted space room after (given bytes) ≡ refused 19 0
+  pub fitted-limit : length (after .fragment) ≤ space → fragmentLimit < length (after .fragment) → fitted space room after gone (given bytes) ≡ refused 19 0
   fitted-limit g h = rw (le-ltb space (length (after .fragment)) g, lt-ltb fragmentLimit (length (after .fragment)) h)
 
   pub fitted-output : length (after .fragment) ≤ space → length (after .fragment) ≤ fragmentLimit → room < length bytes
-      → fitted space room after (given bytes) ≡ refused 20 0
+      → fitted space room after gone (given bytes) ≡ refused 20 0
   fitted-output g h r =
       rw (le-ltb space (length (after .fragment)) g, le-ltb fragmentLimit (length (after .fragment)) h, lt-ltb room (length bytes) r)
 
   pub fitted-all : length (after .fragment) ≤ space → length (after .fragment) ≤ fragmentLimit → length bytes ≤ room
-      → fitted space room after (given bytes) ≡ given (record { held = after; bytes = bytes })
+      → fitted space room after gone (given bytes) ≡ given (record { held = after; bytes = bytes; lost = gone })
   fitted-all g h r =
       rw (le-ltb space (length (after .fragment)) g, le-ltb fragmentLimit (length (after .fragment)) h, le-ltb room (length bytes) r)
 
@@ -79,6 +79,27 @@ module _ (state : State) (number : ℕ) (payload store : List ℕ) (n : ℕ) (z 
   abbrev pub after : Held
   after = record { begun = true; last = number; fragment = left y js }
 
+  -- what is lost
+  abbrev pub gone : Lost
+  gone = record { fragment = ltb k (state .«open»); element = ltb 0 from }
+
+  -- what is answered, with so many bytes left open and so many handed out
+  abbrev pub says : ℕ → ℕ → Answer Received
+  says size count =
+      given
+      (record {
+        state = record { begun = true; last = number; «open» = size };
+        bytes = count;
+        «fragment_lost» = gone .fragment;
+        «element_lost» = gone .element;
+      })
+
+  taken-lost : lost (heldIn state store) number (record { z = z; y = y; elements = es }) ≡ gone
+  unfolding lost
+  taken-lost =
+      let l = lost-is store (state .«open») z (isInStep (state .begun) (state .last) number) k from (s .stored) (s .k-is) (s .from-is) in
+      ap₂ (λ (f e : Bool). record { fragment = f; element = e }) (l .0) (l .1)
+
   taken-joined : joined (joinable (heldIn state store) number) z es ≡ js
   taken-joined = joined-is store (state .«open») z (isInStep (state .begun) (state .last) number) es k from (s .stored) (s .k-is) (s .from-is)
 
@@ -87,12 +108,12 @@ module _ (state : State) (number : ℕ) (payload store : List ℕ) (n : ℕ) (z 
       finished-is y (take k store) es from n (s .count ∙ sym (length-map (partsOf payload) (bytesOf payload)))
       ∙ ap (λ (m : ℕ). take (m - from) js) (sym (s .to-is))
 
-  pub opened-is : (space room : ℕ) → opened space room (heldIn state store) number (packetOf payload) ≡ fitted space room after (wires (between store k payload from to))
+  pub opened-is : (space room : ℕ) → opened space room (heldIn state store) number (packetOf payload) ≡ fitted space room after gone (wires (between store k payload from to))
   unfolding next out handed keptOpen
   opened-is space room =
       let h : Held = heldIn state store in
       ap (λ (a : Answer (List _)). opened space room h number (packetBy payload a)) (s .whole)
-      ∙ rw (← s .z-is, ← s .y-is, s .forward, taken-joined, taken-finished)
+      ∙ rw (← s .z-is, ← s .y-is, s .forward, taken-lost, taken-joined, taken-finished)
 
   pub kept-most : (k ≤ length store) × (k ≤ fragmentLimit)
   kept-most = go (z && isInStep (state .begun) (state .last) number) (s .k-is)
@@ -119,7 +140,7 @@ module _ (state : State) (number : ℕ) (payload store : List ℕ) (n : ℕ) (z 
     pub taking-broken : (m a : ℕ) (output′ : List ℕ) → wires (between store k payload from to) ≡ refused m a → output′ ≡ output
         → Leaves outcome store output (refused m a) store output′
     taking-broken m a output′ e f =
-        leaves-refused outcome store output output′ m a (opened-is (length store) (length output) ∙ ap (fitted (length store) (length output) after) e) f
+        leaves-refused outcome store output output′ m a (opened-is (length store) (length output) ∙ ap (fitted (length store) (length output) after gone) e) f
 
     module _ (bytes : List ℕ) (r : Fragment) (size : ℕ) (w : wires (between store k payload from to) ≡ given bytes) (l : Left payload y from k r) (e : size ≡ r .kept + r .size) where
       fragment-length : length (left y js) ≡ size
@@ -128,24 +149,24 @@ module _ (state : State) (number : ℕ) (payload store : List ℕ) (n : ℕ) (z 
           ∙ across-length store payload (r .kept) (r .start) (r .size) (omega (arith, l .0, kept-most .0)) (l .1)
           ∙ sym e
 
-      opened-given : outcome ≡ fitted (length store) (length output) after (given bytes)
-      opened-given = opened-is (length store) (length output) ∙ ap (fitted (length store) (length output) after) w
+      opened-given : outcome ≡ fitted (length store) (length output) after gone (given bytes)
+      opened-given = opened-is (length store) (length output) ∙ ap (fitted (length store) (length output) after gone) w
 
       pub taking-store : length store < size → (output′ : List ℕ) → output′ ≡ output → Leaves outcome store output (refused 19 0) store output′
       taking-store h output′ f =
           leaves-refused outcome store output output′ 19 0
-          (opened-given ∙ fitted-store (length store) (length output) after bytes (omega (arith, fragment-length))) f
+          (opened-given ∙ fitted-store (length store) (length output) after gone bytes (omega (arith, fragment-length))) f
 
       pub taking-limit : size ≤ length store → fragmentLimit < size → (output′ : List ℕ) → output′ ≡ output → Leaves outcome store output (refused 19 0) store output′
       taking-limit g h output′ f =
           leaves-refused outcome store output output′ 19 0
-          (opened-given ∙ fitted-limit (length store) (length output) after bytes (omega (arith, fragment-length)) (omega (arith, fragment-length))) f
+          (opened-given ∙ fitted-limit (length store) (length output) after gone bytes (omega (arith, fragment-length)) (omega (arith, fragment-length))) f
 
       pub taking-output : size ≤ length store → size ≤ fragmentLimit → length output < length bytes → (output′ : List ℕ) → output′ ≡ output
           → Leaves outcome store output (refused 20 0) store output′
       taking-output g h i output′ f =
           leaves-refused outcome store output output′ 20 0
-          (opened-given ∙ fitted-output (length store) (length output) after bytes (omega (arith, fragment-length)) (omega (arith, fragment-length)) i) f
+          (opened-given ∙ fitted-output (length store) (length output) after gone bytes (omega (arith, fragment-length)) (omega (arith, fragment-length)) i) f
 
       -- the bytes of the fragment stored, behind those that are there already
       kept-stored : (store′ : List ℕ) → store′ ≡ replaced store (r .kept) (take (r .size) (drop (r .start) payload)) → store′ ≡ front (left y js) store
@@ -159,12 +180,12 @@ module _ (state : State) (number : ℕ) (payload store : List ℕ) (n : ℕ) (z 
 
       pub taking-all : size ≤ length store → size ≤ fragmentLimit → length bytes ≤ length output → (count : ℕ) (store′ output′ : List ℕ) → count ≡ length bytes
           → store′ ≡ replaced store (r .kept) (take (r .size) (drop (r .start) payload)) → output′ ≡ front bytes output
-          → Leaves outcome store output (given (record { state = record { begun = true; last = number; «open» = size }; bytes = count })) store′ output′
+          → Leaves outcome store output (says size count) store′ output′
       taking-all g h i count store′ output′ c f o =
-          let t : outcome ≡ given (record { held = after; bytes = bytes }) =
-          opened-given ∙ fitted-all (length store) (length output) after bytes (omega (arith, fragment-length)) (omega (arith, fragment-length)) i in
+          let t : outcome ≡ given (record { held = after; bytes = bytes; lost = gone }) =
+          opened-given ∙ fitted-all (length store) (length output) after gone bytes (omega (arith, fragment-length)) (omega (arith, fragment-length)) i in
           rw t (
-            ap₂ (λ (x j : ℕ). given (record { state = record { begun = true; last = number; «open» = x }; bytes = j })) (sym fragment-length) c,
+            ap₂ says (sym fragment-length) c,
             kept-stored store′ f,
             o,
           )

@@ -9,26 +9,27 @@ use Rattle.base.specs.Lists.{front}
 use Rattle.element.specs.Elements.{payloadLimit}
 use Rattle.handing.specs.Handing.{fragmentLimit, wires}
 use Rattle.receiver.specs.Packet.{Packet, packetOf}
-use Rattle.receiver.specs.Joining.{Held, ahead, next, out}
+use Rattle.receiver.specs.Joining.{Held, Lost, ahead, lost, next, out}
 use Rattle.receiver.specs.declared.State.{State}
 use Rattle.receiver.specs.declared.Received.{Received}
 
--- what a packet that is taken leads to: what is then held, and the bytes handed out
+-- what a packet that is taken leads to: what is then held, the bytes handed out, and what was thrown away
 pub record Taken : Type 0 where
   pub held : Held
   pub bytes : List ℕ
+  pub lost : Lost
 
 -- R19, then R20, with so much space in the store and so much room in the output
-abbrev pub fitted : ℕ → ℕ → Held → Answer (List ℕ) → Answer Taken
-fitted space room after (given bytes) =
+abbrev pub fitted : ℕ → ℕ → Held → Lost → Answer (List ℕ) → Answer Taken
+fitted space room after gone (given bytes) =
     cond (ltb space (length (after .fragment)) || ltb fragmentLimit (length (after .fragment)))
     (refused 19 0)
-    (cond (ltb room (length bytes)) (refused 20 0) (given (record { held = after; bytes = bytes })))
-fitted space room after (refused n at) = refused n at
+    (cond (ltb room (length bytes)) (refused 20 0) (given (record { held = after; bytes = bytes; lost = gone })))
+fitted space room after gone (refused n at) = refused n at
 
 -- R15 to R17, then R18, R19, R20
 abbrev pub opened : ℕ → ℕ → Held → ℕ → Answer Packet → Answer Taken
-opened space room h number (given p) = fitted space room (next h number p) (wires (out h number p))
+opened space room h number (given p) = fitted space room (next h number p) (lost h number p) (wires (out h number p))
 opened space room h number (refused n at) = refused n at
 
 -- R13, then R14, then the rest
@@ -52,10 +53,19 @@ outcome state number payload store output =
     (refused 12 0)
     (taken (length store) (length output) (heldIn state store) number payload)
 
--- ---- the new state and the number of bytes handed out; and every byte of store and output
+-- ---- the new state, the number of bytes handed out and what was thrown away; and every byte of store and output
+
+abbrev pub receivedOf : Taken → Received
+receivedOf t =
+    record {
+      state = stateOf (t .held);
+      bytes = length (t .bytes);
+      «fragment_lost» = t .lost .fragment;
+      «element_lost» = t .lost .element;
+    }
 
 abbrev pub answered : Answer Taken → Answer Received
-answered (given t) = given (record { state = stateOf (t .held); bytes = length (t .bytes) })
+answered (given t) = given (receivedOf t)
 answered (refused n at) = refused n at
 
 abbrev pub storeBy : Answer Taken → List ℕ → List ℕ

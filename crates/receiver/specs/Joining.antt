@@ -2,7 +2,8 @@
 use Prim.Native.Nat.{ℕ, _+_, _-_, _%_}
 use mathlib.Core.List.{List, [], _∷_, _++_}
 use mathlib.Core.Bool.{Bool, true, false, cond, not, _&&_, _||_}
-use lib.Dec.{leb, eqb}
+use lib.ListN.{length}
+use lib.Dec.{leb, ltb, eqb}
 use Rattle.receiver.specs.Packet.{Packet}
 
 -- V1: whether something was taken, the last number taken, and the open fragment; none is the empty list
@@ -49,6 +50,23 @@ joined fragment false es = es
 joined fragment true [] = []
 joined [] true (e ∷ es) = es
 joined (b ∷ fragment) true (e ∷ es) = ((b ∷ fragment) ++ e) ∷ es
+
+-- what a packet throws away: an open fragment, its first element
+pub record Lost : Type 0 where
+  pub fragment : Bool
+  pub element : Bool
+
+-- a fragment is there
+abbrev pub some : List ℕ → Bool
+some fragment = ltb 0 (length fragment)
+
+-- V5: the open fragment, unless with Z the first element joins it; V6: with Z, the first element, where there is none to join
+unfoldable pub lost : Held → ℕ → Packet → Lost
+lost h number p =
+    record {
+      fragment = some (h .fragment) && not (p .z && some (joinable h number));
+      element = p .z && not (some (joinable h number));
+    }
 
 -- V8: with Y, all but the last are finished
 unfoldable pub finished : Bool → List (List ℕ) → List (List ℕ)

@@ -34,10 +34,12 @@ pub struct State {
     pub open: usize,
 }
 
-// What a packet that is taken gives: the new state, and how many bytes go out.
+// What a packet that is taken gives: the new state, how many bytes go out, and whether an open fragment, and whether an element, was thrown away.
 pub struct Received {
     pub state: State,
     pub bytes: usize,
+    pub fragment_lost: bool,
+    pub element_lost: bool,
 }
 
 // The answer of the receive call.
@@ -219,6 +221,9 @@ fn take_packet(
                     open: size,
                 },
                 bytes: bytes,
+                // joined is all that was open, or nothing
+                fragment_lost: joined < state.open,
+                element_lost: from > 0,
             })
         }
     }

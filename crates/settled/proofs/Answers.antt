@@ -43,22 +43,6 @@ use Rattle.train.specs.declared.LengthRead.{LengthRead}
 use Rattle.train.specs.declared.LengthRead.the-variants as stated
 use Rattle.train.specs.declared.RecordRead.{RecordRead}
 use Rattle.train.specs.declared.RecordRead.the-variants as found
-use Rattle.packing.specs.Pack as pack
-use Rattle.packing.specs.Paper as packing
-use Rattle.packing.specs.declared.PackHeadRead.{PackHeadRead}
-use Rattle.packing.specs.declared.PackHeadRead.the-variants as packHead
-use Rattle.packing.specs.declared.UnitLength.{UnitLength}
-use Rattle.packing.specs.declared.UnitLength.the-variants as unitLength
-use Rattle.packing.specs.declared.UnitAnswer.{UnitAnswer}
-use Rattle.packing.specs.declared.UnitAnswer.the-variants as unit
-use Rattle.listing.specs.Input as input
-use Rattle.listing.specs.Paper as listing
-use Rattle.listing.specs.declared.InputRead.{InputRead}
-use Rattle.listing.specs.declared.InputRead.the-variants as whole
-use Rattle.unpacking.specs.Unpack as unpack
-use Rattle.unpacking.specs.Paper as unpacking
-use Rattle.unpacking.specs.declared.RecordStep.{RecordStep}
-use Rattle.unpacking.specs.declared.RecordStep.the-variants as step
 
 -- an answer of two cases, back from what was asked for or from the refusal and its offset
 abbrev back : {R A : Type 0} → (A → R) → (Refusal → ℕ → R) → Answer A → R
@@ -212,73 +196,3 @@ found-one = tells-apart trains.paperRecord foundBack undone
     undone found.End = refl
     undone (found.Found h) = refl
     undone (found.Refused r) = ap found.Refused (number-names r)
-
--- ---- the programs' steps
-
-packHeadBack : pack.Head → PackHeadRead
-packHeadBack (pack.found h) = packHead.Head h
-packHeadBack pack.none = packHead.NoHead
-
-pub pack-head-one : (a b : PackHeadRead) → packing.paperHead a ≡ packing.paperHead b → a ≡ b
-unfolding packHeadBack
-pack-head-one = tells-apart packing.paperHead packHeadBack undone
-  where
-    undone : (r : PackHeadRead) → packHeadBack (packing.paperHead r) ≡ r
-    undone (packHead.Head h) = refl
-    undone packHead.NoHead = refl
-
-unitLengthBack : pack.Length → UnitLength
-unitLengthBack pack.over = unitLength.End
-unitLengthBack (pack.stated n) = unitLength.Stated n
-unitLengthBack pack.cut = unitLength.Cut
-
-pub unit-length-one : (a b : UnitLength) → packing.paperLength a ≡ packing.paperLength b → a ≡ b
-unfolding unitLengthBack
-unit-length-one = tells-apart packing.paperLength unitLengthBack undone
-  where
-    undone : (r : UnitLength) → unitLengthBack (packing.paperLength r) ≡ r
-    undone unitLength.End = refl
-    undone (unitLength.Stated n) = refl
-    undone unitLength.Cut = refl
-
-unitBack : pack.Unit′ → UnitAnswer
-unitBack pack.cutShort = unit.Cut
-unitBack (pack.refusedBy n) = unit.Refused (named n)
-unitBack (pack.packed r) = unit.Packed r
-
-pub unit-one : (a b : UnitAnswer) → packing.paperUnit a ≡ packing.paperUnit b → a ≡ b
-unfolding unitBack
-unit-one = tells-apart packing.paperUnit unitBack undone
-  where
-    undone : (r : UnitAnswer) → unitBack (packing.paperUnit r) ≡ r
-    undone unit.Cut = refl
-    undone (unit.Refused r) = ap unit.Refused (number-names r)
-    undone (unit.Packed r) = refl
-
-inputBack : input.Input → InputRead
-inputBack input.badInput = whole.Bad
-inputBack (input.good m) = whole.Good m
-
-pub input-one : (a b : InputRead) → listing.paperInput a ≡ listing.paperInput b → a ≡ b
-unfolding inputBack
-input-one = tells-apart listing.paperInput inputBack undone
-  where
-    undone : (r : InputRead) → inputBack (listing.paperInput r) ≡ r
-    undone whole.Bad = refl
-    undone (whole.Good m) = refl
-
-stepBack : unpack.Step → RecordStep
-stepBack (unpack.takes r) = step.Taken r
-stepBack (unpack.passes n) = step.PassedOver (named n)
-stepBack (unpack.breaks n) = step.Broken (named n)
-stepBack unpack.quits = step.End
-
-pub step-one : (a b : RecordStep) → unpacking.paperStep a ≡ unpacking.paperStep b → a ≡ b
-unfolding stepBack
-step-one = tells-apart unpacking.paperStep stepBack undone
-  where
-    undone : (r : RecordStep) → stepBack (unpacking.paperStep r) ≡ r
-    undone (step.Taken r) = refl
-    undone (step.PassedOver r) = ap step.PassedOver (number-names r)
-    undone (step.Broken r) = ap step.Broken (number-names r)
-    undone step.End = refl

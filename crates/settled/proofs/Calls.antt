@@ -1,5 +1,5 @@
 -- Each public call is settled, by one law: its contract says one fact, and the fact leaves one outcome. Assumes nothing.
-use mathlib.Core.Path.{_≡_, refl, sym, _∙_}
+use mathlib.Core.Path.{_≡_, refl, sym, ap₂, _∙_}
 use Prim.Native.Nat.{ℕ}
 use mathlib.Core.List.{List}
 use Rattle.obu.specs.Unit.{flat}
@@ -23,15 +23,16 @@ use Rattle.train.proofs.read_head as readHead
 use Rattle.train.proofs.read_length as readLength
 use Rattle.train.proofs.read_record as readRecord
 use Rattle.train.proofs.record_head as recordHead
-use Rattle.packing.proofs.read_pack_head as readPackHead
-use Rattle.packing.proofs.read_unit_length as readUnitLength
-use Rattle.listing.proofs.unit_length as unitLength
-use Rattle.listing.proofs.read_input as readInput
-use Rattle.unpacking.proofs.fresh_state as freshState
-use Rattle.unpacking.proofs.read_stated as readStated
+use Rattle.turns.specs.declared.Order.{Order}
+use Rattle.packing.specs.declared.Place as pack
+use Rattle.packing.proofs.start as packStart
+use Rattle.unpacking.specs.declared.Place as unpack
+use Rattle.listing.specs.declared.Place as planlist
+use Rattle.listing.proofs.start as planlistStart
+use Rattle.unpacking.proofs.start as unpackStart
 use Rattle.settled.specs.Settled.{Settled, SettledBy, SamePart}
 use Rattle.settled.proofs.Law.{meet, settles}
-use Rattle.settled.proofs.Answers.{size-one, list-one, plan-one, header-one, payloads-one, receipt-one, head-one, stated-one, found-one, pack-head-one, unit-length-one, input-one}
+use Rattle.settled.proofs.Answers.{size-one, list-one, plan-one, header-one, payloads-one, receipt-one, head-one, stated-one, found-one}
 
 pub read-leb128 : Settled readLeb128.ended (λ M. readLeb128.clauses)
 read-leb128 =
@@ -99,27 +100,25 @@ read-record =
 pub record-head : Settled recordHead.ended (λ M. recordHead.clauses)
 record-head = settles recordHead.ended _ _ _ (λ M 𝓤 H A mem run κs a. refl) (λ κs a x y p q. (meet p q, refl))
 
--- ---- the programs' steps
+-- ---- what each program begins with
 
-pub read-pack-head : Settled readPackHead.ended (λ M. readPackHead.clauses)
-read-pack-head =
-    settles readPackHead.ended _ _ _ (λ M 𝓤 H A mem run κs a. refl) (λ κs a x y p q. (pack-head-one _ _ (meet p q), refl))
+pub pack-start : Settled packStart.ended (λ M. packStart.clauses)
+pack-start =
+    settles packStart.ended _ _ _ (λ M 𝓤 H A mem run κs a. refl) (λ κs a x y p q. (
+      ap₂ (λ (w : pack.Place) (o : Order). record { place = w; order = o }) (meet (p .turned .0 .place-is) (q .turned .0 .place-is)) (meet (p .turned .0 .order-is) (q .turned .0 .order-is)),
+      refl,
+    ))
 
-pub read-unit-length : Settled readUnitLength.ended (λ M. readUnitLength.clauses)
-read-unit-length =
-    settles readUnitLength.ended _ _ _ (λ M 𝓤 H A mem run κs a. refl) (λ κs a x y p q. (unit-length-one _ _ (meet p q), refl))
+pub unpack-start : Settled unpackStart.ended (λ M. unpackStart.clauses)
+unpack-start =
+    settles unpackStart.ended _ _ _ (λ M 𝓤 H A mem run κs a. refl) (λ κs a x y p q. (
+      ap₂ (λ (w : unpack.Place) (o : Order). record { place = w; order = o }) (meet (p .turned .0 .place-is) (q .turned .0 .place-is)) (meet (p .turned .0 .order-is) (q .turned .0 .order-is)),
+      refl,
+    ))
 
-pub unit-length : Settled unitLength.ended (λ M. unitLength.clauses)
-unit-length =
-    settles unitLength.ended _ _ _ (λ M 𝓤 H A mem run κs a. refl) (λ κs a x y p q. (meet (p .0) (q .0), refl))
-
-pub read-input : Settled readInput.ended (λ M. readInput.clauses)
-read-input =
-    settles readInput.ended _ _ _ (λ M 𝓤 H A mem run κs a. refl) (λ κs a x y p q. (input-one _ _ (meet p q), refl))
-
-pub fresh-state : Settled freshState.ended (λ M. freshState.clauses)
-fresh-state = settles freshState.ended _ _ _ (λ M 𝓤 H A mem run κs a. refl) (λ κs a x y p q. (meet p q, refl))
-
-pub read-stated : Settled readStated.ended (λ M. readStated.clauses)
-read-stated =
-    settles readStated.ended _ _ _ (λ M 𝓤 H A mem run κs a. refl) (λ κs a x y p q. (stated-one _ _ (meet (p .0) (q .0)), refl))
+pub planlist-start : Settled planlistStart.ended (λ M. planlistStart.clauses)
+planlist-start =
+    settles planlistStart.ended _ _ _ (λ M 𝓤 H A mem run κs a. refl) (λ κs a x y p q. (
+      ap₂ (λ (w : planlist.Place) (o : Order). record { place = w; order = o }) (meet (p .0 .0 .place-is) (q .0 .0 .place-is)) (meet (p .0 .0 .order-is) (q .0 .0 .order-is)),
+      refl,
+    ))

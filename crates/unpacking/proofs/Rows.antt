@@ -1,7 +1,8 @@
--- `unpack` on some trains; computed. Assumes nothing.
+-- `unpack` on some trains: what it writes and says; computed. Assumes nothing.
 use mathlib.Core.Path.{_≡_, refl}
 use Prim.Native.Nat.{ℕ}
-use mathlib.Core.List.{List, [], _∷_, map}
+use mathlib.Core.List.{List, [], _∷_, _++_, map}
+use Rattle.base.specs.Words.{ascii, words, wordsOf}
 use Rattle.leb128.specs.Field.{fieldIn, encodeIn}
 use Rattle.obu.specs.Front.{frontOf, headed}
 use Rattle.obu.specs.Wire.{wholeOf, wire}
@@ -9,9 +10,12 @@ use Rattle.element.specs.Elements.{elementAt, untilEnd, exactly, counting, elem
 use Rattle.train.specs.Bytes.{valueAfter}
 use Rattle.train.specs.Train.{lengthOf, bodyOf, recordsFrom, headOf}
 use Rattle.handing.specs.Handing.{wires}
-use Rattle.receiver.specs.Joining.{isAhead, isInStep, joined, finished, left, handed, keptOpen, next, out}
+use Rattle.receiver.specs.Joining.{isAhead, isInStep, joined, lost, finished, left, handed, keptOpen, next, out}
 use Rattle.receiver.specs.Call.{taken}
-use Rattle.unpacking.specs.Unpack.{unpackedFrom, unpackOf}
+use Rattle.turns.specs.Text.{decimalIn, lineText}
+use Rattle.turns.specs.declared.Subject.the-variants as subject
+use Rattle.turns.specs.declared.Word.the-variants as word
+use Rattle.unpacking.specs.Unpack.{unpackedFrom, unpackOf, lossesFrom, saidFrom, lossesLine, unpackSays}
 
 -- an OBU in two packets and one by itself, over the end of the numbers; the first packet lost; the second before the first; a packet with
 -- N and Z passed over; a cut record at the end; a record of length 2 between them; no record; another version; nothing
@@ -42,3 +46,24 @@ unpacked :
     ∷ []
 unfolding trains headOf recordsFrom lengthOf bodyOf valueAfter unpackedFrom taken isAhead isInStep joined finished left handed keptOpen next out wires wire wholeOf frontOf headed fieldIn encodeIn elementAt untilEnd exactly counting elementsOf payloadElements
 unpacked = refl
+
+-- what is said of them: an element lost with the packet before it; a packet that comes late too; N with Z; a record that is cut, and one
+-- too short; no train
+said :
+    map unpackSays trains
+    ≡ []
+    ∷ lossesLine (record { packets = 0; fragments = 0; elements = 1 })
+    ∷ (lineText (subject.Record 1) (word.Refused 14) ++ lossesLine (record { packets = 1; fragments = 0; elements = 1 }))
+    ∷ (lineText (subject.Record 1) (word.Refused 15) ++ lossesLine (record { packets = 1; fragments = 0; elements = 0 }))
+    ∷ (lineText (subject.Record 1) (word.Refused 22) ++ [])
+    ∷ (lineText (subject.Record 1) (word.Refused 23) ++ [])
+    ∷ []
+    ∷ lineText subject.Train (word.Refused 21)
+    ∷ lineText subject.Train (word.Refused 21)
+    ∷ []
+unfolding trains headOf recordsFrom lengthOf bodyOf valueAfter lossesFrom saidFrom taken isAhead isInStep joined lost finished left handed keptOpen next out wires wire wholeOf frontOf headed fieldIn encodeIn elementAt untilEnd exactly counting elementsOf payloadElements lineText decimalIn wordsOf words
+said = refl
+
+line : lossesLine (record { packets = 1; fragments = 20; elements = 3 }) ≡ ascii "lost: 1 packets passed over, 20 open fragments, 3 leading elements\n"
+unfolding lossesLine decimalIn
+line = refl

@@ -1,58 +1,128 @@
--- A run of the steps writes what `unpack` is to write (G5, G6). Assumes nothing.
+-- A run of the steps writes and says what `unpack` is to write and to say (G5 to G7, G15). Assumes nothing.
 use mathlib.Core.Path.{_≡_, refl, sym, ap, ap₂, _∙_}
-use Prim.Native.Nat.{ℕ, zero, suc, _+_, _-_, _≤_, _<_}
+use Prim.Native.Nat.{ℕ, zero, suc, _+_, _≤_}
 use native.Mathlib.Omega.{arith}
-use mathlib.Core.List.{List, [], _∷_, _++_}
-use lib.ListN.{length, take, drop, length-drop}
+use mathlib.Core.List.{List, [], _∷_, _++_, append-nil, append-assoc}
+use mathlib.Core.Bool.{true}
+use lib.ListN.{length, take, drop, length-take, length-drop}
 use lib.Dec.{ltb}
-use Rattle.base.proofs.Tests.{by-cond}
-use lib.Seq.{drop-nil, take-append-seam}
+use lib.Seq.{drop-drop}
 use Rattle.base.specs.Answers.{Answer, given, refused}
 use Rattle.base.specs.Lists.{front}
-use Rattle.train.specs.Train.{lengthWidth, Packet, Train, Length, over, stated, bad, lengthOf, Front, ends, holds, stops, bodyOf, packetIn, recordsFrom, recordsOf, headOf, trainBy, standing}
+use Rattle.base.proofs.Tests.{by-cond, split-on}
+use Rattle.train.specs.Train.{lengthWidth, Packet, Train, Length, over, stated, bad, lengthOf, Front, ends, holds, stops, bodyOf, packetIn, recordsOf, headOf, trainBy, standing}
+use Rattle.train.proofs.Reading.{stated-within}
 use Rattle.train.proofs.Stepping.{stream-over, stream-bad, stream-cut, stream-next}
 use Rattle.handing.proofs.Lists.{front-length}
 use Rattle.receiver.specs.Joining.{Held, fresh}
-use Rattle.receiver.specs.Call.{Taken, taken, stateOf, outcome, answered, storeBy, outputBy}
-use Rattle.receiver.specs.declared.State.{State}
+use Rattle.receiver.specs.Call.{Taken, taken, stateOf, outcome}
 use Rattle.receiver.proofs.Laws.{taken-fits, Holding, holding-fresh, outcome-holding, holding-next}
-use Rattle.unpacking.specs.Unpack.{outputBytes, fragmentStore, turn, heldAfter, writtenFor, unpackedFrom, unpackOf, stepBy, stepAt, storeAt, outAt, stepOf, storeOf, outOf}
-use Rattle.unpacking.specs.Run.{goOn, runBy, runFrom, runHeaded, runOf}
+use Rattle.turns.specs.Text.{lineText}
+use Rattle.turns.specs.Orders as orders
+use Rattle.turns.specs.Orders.{nextCount, Told, says}
+use Rattle.turns.specs.Loop.{Output, nothing, also, loop}
+use Rattle.turns.specs.declared.Subject.{Subject}
+use Rattle.turns.specs.declared.Word.{Word}
+use Rattle.unpacking.specs.Unpack.{outputBytes, fragmentStore, turn, heldAfter, writtenFor, unpackedFrom, unpackOf, noLosses, withOpen, lossesAfter, lossesFrom, isNone, lossesLine, saidFor, saidFrom, saidOf, saidBy, unpackSays, stepBy, stepAt, stepOf, storeBy}
+use Rattle.unpacking.specs.Steps.{awaits, startsWith, lossesTold, versionTold, lengthTold, bodyTold}
+use Rattle.unpacking.specs.Run.{Stores, unpack, runOf}
+use Rattle.unpacking.specs.declared.losses.Losses.{Losses}
+use Rattle.unpacking.specs.declared.Wait.the-variants as wait
+use Rattle.unpacking.specs.declared.Place.{Place}
 
--- ---- one step
+abbrev run : ℕ → Told Place → Stores → List ℕ → Output
+run = loop unpack
+
+-- ---- the end of a run
+
+run-ends : (n : ℕ) (p : Place) (s : Stores) (l : List ℕ) → run n (orders.ends p) s l ≡ nothing
+unfolding loop
+run-ends zero p s l = refl
+run-ends (suc n) p s l = refl
+
+abbrev only : List ℕ → Output
+only text = record { written = []; said = text }
+
+-- what was lost is said, if anything was
+run-losses : (n : ℕ) → 1 ≤ n → (p : Place) (c : Losses) (s : Stores) (l : List ℕ) → run n (lossesTold p c) s l ≡ only (saidOf c)
+unfolding loop
+run-losses zero h p c s l = absurd (omega arith)
+run-losses (suc n) h p c s l = split-on (isNone c)
+    (λ t. rw t refl)
+    (λ t. rw t (ap (also [] (lossesLine c)) (run-ends n (awaits p wait.Nothing) _ l) ∙ ap only (append-nil (lossesLine c))))
+
+-- a line is said before it
+run-stops : (n : ℕ) → 2 ≤ n → (p : Place) (x : Subject) (w : Word) (s : Stores) (l : List ℕ)
+    → run n (says (awaits p wait.Close) x w 0) s l ≡ only (lineText x w ++ saidOf (withOpen (p .losses) (p .state .«open»)))
+unfolding loop
+run-stops zero h p x w s l = absurd (omega arith)
+run-stops (suc n) h p x w s l =
+    ap (also [] (lineText x w)) (run-losses n (omega arith) (awaits p wait.Close) (withOpen (p .losses) (p .state .«open»)) _ l)
+
+-- ---- from a record on
+
+-- record k is next, h is held, and c was lost
+abbrev before : ℕ → Held → Losses → Place
+before k h c = record { wait = wait.Length; count = k; state = stateOf h; losses = c }
+
+-- so many bytes of it are read
+abbrev within : ℕ → Held → Losses → ℕ → Place
+within k h c m = awaits (before k h c) (wait.Body m)
+
+-- bytes are written or a text is said, and its length is read
+abbrev onward : ℕ → Held → Losses → List ℕ → List ℕ → Told Place
+onward k h c w y = record { place = before k h c; more = true; written = w; said = y; read = lengthWidth }
+
+-- what is to come
+abbrev outputFor : ℕ → Held → Losses → Train → Output
+outputFor k h c t = record { written = unpackedFrom h (t .packets); said = saidFrom k h (t .packets) (t .stop) ++ saidOf (lossesFrom c h (t .packets)) }
 
 -- store and output of the length that they have throughout, and what is held
-pub record Ready (h : Held) (store out : List ℕ) : Type 0 where
-  pub holding : Holding h store
-  pub store-is : length store ≡ fragmentStore
-  pub out-is : length out ≡ outputBytes
+record Ready (h : Held) (s : Stores) : Type 0 where
+  pub holding : Holding h (s .store)
+  pub store-is : length (s .store) ≡ fragmentStore
+  pub out-is : length (s .out) ≡ outputBytes
 
-module _ (h : Held) (store out : List ℕ) (r : Ready h store out) (p : Packet) (rest : State → List ℕ → List ℕ → List ℕ) (ps : List Packet)
-    (again : (h′ : Held) (store′ out′ : List ℕ) → Ready h′ store′ out′ → rest (stateOf h′) store′ out′ ≡ unpackedFrom h′ ps) where
-  turned : outcome (stateOf h) (p .number) (p .payload) store out ≡ turn h p
+-- a run of n turns does it, from any record on
+abbrev Comes : ℕ → List ℕ → Type 0
+Comes n l =
+    (k : ℕ) (h : Held) (c : Losses) (s : Stores) → Ready h s → (w y : List ℕ)
+    → run n (onward k h c w y) s l ≡ also w y (outputFor k h c (recordsOf lengthWidth l))
+
+-- ---- one packet
+
+module _ (n k m : ℕ) (h : Held) (c : Losses) (s : Stores) (r : Ready h s) (p : Packet) (l : List ℕ) (again : Comes n l) where
+  turned : outcome (stateOf h) (p .number) (p .payload) (s .store) (s .out) ≡ turn h p
   turned =
-      outcome-holding h (p .number) (p .payload) store out (r .holding)
+      outcome-holding h (p .number) (p .payload) (s .store) (s .out) (r .holding)
       ∙ ap₂ (λ (a b : ℕ). taken a b h (p .number) (p .payload)) (r .store-is) (r .out-is)
 
+  -- what becomes of it, where the receiver says so
+  abbrev RunBy : Answer Taken → Output
+  RunBy a =
+      run n (bodyTold (within k h c m) (stepBy a))
+      (record { store = storeBy (stepBy a) (s .store); out = front (bodyTold (within k h c m) (stepBy a) .written) (s .out) }) l
+
   by-turn : (a : Answer Taken) → turn h p ≡ a
-      → goOn (stateOf h) (storeBy a store) (outputBy a out) (stepBy (answered a)) rest ≡ writtenFor a ++ unpackedFrom (heldAfter h a) ps
-  by-turn (refused n at) e = again h store out r
+      → RunBy a ≡ also (writtenFor a) (saidFor k a) (outputFor (nextCount k) (heldAfter h a) (lossesAfter c a) (recordsOf lengthWidth l))
+  by-turn (refused j at) e = again (nextCount k) h (lossesAfter c (refused j at)) s r [] (saidFor k (refused j at))
   by-turn (given t) e =
-      let k = outcome-holding h (p .number) (p .payload) store out (r .holding) in
-      let f = taken-fits (length store) (length out) h (p .number) (p .payload) t (sym k ∙ turned ∙ e) in
-      let n = holding-next h (p .number) (p .payload) store out (r .holding) t (sym k ∙ turned ∙ e) in
-      ap₂ _++_ (take-append-seam (t .bytes) (drop (length (t .bytes)) out))
-      (again (t .held) (front (t .held .fragment) store) (front (t .bytes) out)
-      (record { holding = n .0; store-is = n .1 ∙ r .store-is; out-is = front-length (t .bytes) out (f .2) ∙ r .out-is }))
+      let same = outcome-holding h (p .number) (p .payload) (s .store) (s .out) (r .holding) in
+      let f = taken-fits (length (s .store)) (length (s .out)) h (p .number) (p .payload) t (sym same ∙ turned ∙ e) in
+      let g = holding-next h (p .number) (p .payload) (s .store) (s .out) (r .holding) t (sym same ∙ turned ∙ e) in
+      again (nextCount k) (t .held) (lossesAfter c (given t)) (record { store = storeBy (stepBy (given t)) (s .store); out = front (t .bytes) (s .out) })
+      (record { holding = g .0; store-is = g .1 ∙ r .store-is; out-is = front-length (t .bytes) (s .out) (f .2) ∙ r .out-is }) (t .bytes) []
 
-  pub step-run : goOn (stateOf h) (storeBy (outcome (stateOf h) (p .number) (p .payload) store out) store) (outputBy (outcome (stateOf h) (p .number) (p .payload) store out) out)
-      (stepBy (answered (outcome (stateOf h) (p .number) (p .payload) store out))) rest
-      ≡ unpackedFrom h (p ∷ ps)
-  unfolding unpackedFrom
-  step-run =
-      ap (λ (a : Answer Taken). goOn (stateOf h) (storeBy a store) (outputBy a out) (stepBy (answered a)) rest) turned ∙ by-turn (turn h p) refl
+  packet-run : (t : Train) → t ≡ record { packets = p ∷ recordsOf lengthWidth l .packets; stop = recordsOf lengthWidth l .stop }
+      → RunBy (outcome (stateOf h) (p .number) (p .payload) (s .store) (s .out)) ≡ outputFor k h c t
+  unfolding unpackedFrom saidFrom lossesFrom
+  packet-run t e =
+      ap RunBy turned ∙ by-turn (turn h p) refl
+      ∙ ap (λ (said : List ℕ). record { written = writtenFor (turn h p) ++ unpackedFrom (heldAfter h (turn h p)) (recordsOf lengthWidth l .packets); said = said })
+      (sym (append-assoc (saidFor k (turn h p)) _ _))
+      ∙ sym (ap (outputFor k h c) e)
 
--- ---- the record at the front of l, and then the rest
+-- ---- one record
 
 body-there : (n at : ℕ) (l : List ℕ) → bodyOf n at l ≡ ends → ⊥
 unfolding bodyOf
@@ -60,59 +130,61 @@ body-there n at l = by-cond (λ (f : Front). f ≡ ends → ⊥) (ltb (length l)
     (λ t e. let z : _≡_ {A = ℕ} 0 1 = cc in absurd (omega arith))
     (λ t e. let z : _≡_ {A = ℕ} 0 1 = cc in absurd (omega arith))
 
-module _ (h : Held) (store out l : List ℕ) (r : Ready h store out) (rest : ℕ → State → List ℕ → List ℕ → List ℕ)
-    (again : (n : ℕ) → lengthOf lengthWidth (take lengthWidth l) ≡ stated n → (h′ : Held) (store′ out′ : List ℕ) → Ready h′ store′ out′
-    → rest (lengthWidth + n) (stateOf h′) store′ out′ ≡ unpackedFrom h′ (recordsOf lengthWidth (drop (lengthWidth + n) l) .packets)) where
-  ended-here : (t : Train) → recordsOf lengthWidth l ≡ t → t .packets ≡ [] → [] ≡ unpackedFrom h (recordsOf lengthWidth l .packets)
-  unfolding unpackedFrom
-  ended-here t e f = sym (ap (λ (x : Train). unpackedFrom h (x .packets)) e ∙ ap (unpackedFrom h) f)
+module _ (k : ℕ) (h : Held) (c : Losses) (s : Stores) (r : Ready h s) (l : List ℕ) where
+  abbrev Expected : Output
+  Expected = outputFor k h c (recordsOf lengthWidth l)
 
-  by-body : (n : ℕ) → lengthOf lengthWidth (take lengthWidth l) ≡ stated n → (f : Front) → bodyOf n 0 (take n (drop lengthWidth l)) ≡ f
-      → goOn (stateOf h) (storeAt (stateOf h) (take n (drop lengthWidth l)) store out f) (outAt (stateOf h) (take n (drop lengthWidth l)) store out f)
-      (stepAt (stateOf h) (take n (drop lengthWidth l)) store out f) (rest (lengthWidth + n))
-      ≡ unpackedFrom h (recordsOf lengthWidth l .packets)
-  by-body n e ends q = absurd (body-there n 0 (take n (drop lengthWidth l)) q)
-  by-body n e (stops k) q = ended-here _ (stream-cut lengthWidth l (omega arith) n e k q) refl
-  by-body n e (holds x) q =
-      step-run h store out r (packetIn (take n (drop lengthWidth l)) x) (rest (lengthWidth + n)) (recordsOf lengthWidth (drop (lengthWidth + n) l) .packets) (again n e)
-      ∙ sym (ap (λ (t : Train). unpackedFrom h (t .packets)) (stream-next lengthWidth l (omega arith) n e x q))
+  module _ (n m : ℕ) (e : lengthOf lengthWidth (take lengthWidth l) ≡ stated m) (some : 2 ≤ n) (again : Comes n (drop m (drop lengthWidth l))) where
+    abbrev body : List ℕ
+    body = take m (drop lengthWidth l)
 
-  by-length : (x : Length) → lengthOf lengthWidth (take lengthWidth l) ≡ x → runBy (stateOf h) store out l x rest ≡ unpackedFrom h (recordsOf lengthWidth l .packets)
-  unfolding stepOf storeOf outOf
-  by-length over e = ended-here _ (stream-over lengthWidth l (omega arith) e) refl
-  by-length (bad k) e = ended-here _ (stream-bad lengthWidth l (omega arith) k e) refl
-  by-length (stated n) e = by-body n e (bodyOf n 0 (take n (drop lengthWidth l))) refl
+    by-body : (f : Front) → bodyOf m 0 body ≡ f
+        → (let t = bodyTold (within k h c m) (stepAt (stateOf h) body (s .store) (s .out) f) in
+        run n t (record { store = storeBy (stepAt (stateOf h) body (s .store) (s .out) f) (s .store); out = front (t .written) (s .out) }) (drop m (drop lengthWidth l)))
+        ≡ Expected
+    unfolding unpackedFrom saidFrom lossesFrom
+    by-body ends q = absurd (body-there m 0 body q)
+    by-body (stops j) q =
+        run-stops n some (within k h c m) _ _ _ _
+        ∙ sym (ap (outputFor k h c) (stream-cut lengthWidth l (omega arith) m e j q))
+    by-body (holds x) q =
+        packet-run n k m h c s r (packetIn body x) (drop m (drop lengthWidth l)) again (recordsOf lengthWidth l)
+        (stream-next lengthWidth l (omega arith) m e x q
+        ∙ ap (λ (j : List ℕ). record { packets = packetIn body x ∷ recordsOf lengthWidth j .packets; stop = recordsOf lengthWidth j .stop }) (sym (drop-drop m lengthWidth l)))
+
+  by-length : (n : ℕ) → 3 ≤ n → ((m : ℕ) → lengthOf lengthWidth (take lengthWidth l) ≡ stated m → (j : ℕ) → n ≡ suc j → Comes j (drop m (drop lengthWidth l)))
+      → (x : Length) → lengthOf lengthWidth (take lengthWidth l) ≡ x
+      → (let t = lengthTold (before k h c) x in
+      run n t (record { store = s .store; out = front (t .written) (s .out) }) (drop lengthWidth l))
+      ≡ Expected
+  unfolding loop unpackedFrom saidFrom lossesFrom stepOf
+  by-length n some again over e =
+      run-losses n (omega arith) (before k h c) (withOpen c (length (h .fragment))) _ _
+      ∙ sym (ap (outputFor k h c) (stream-over lengthWidth l (omega arith) e))
+  by-length n some again (bad j) e =
+      run-stops n (omega arith) (before k h c) _ _ _ _
+      ∙ sym (ap (outputFor k h c) (stream-bad lengthWidth l (omega arith) j e))
+  by-length zero some again (stated m) e = absurd (omega arith)
+  by-length (suc n) some again (stated m) e =
+      ap (also [] []) (by-body n m e (omega arith) (again m e n refl) (bodyOf m 0 (take m (drop lengthWidth l))) refl)
 
 -- ---- all records
 
-run-skip : (state : State) (store out l : List ℕ) (skip : ℕ) → runFrom state store out l skip ≡ runFrom state store out (drop skip l) 0
-unfolding runFrom
-run-skip state store out [] skip = rw (drop-nil skip)
-run-skip state store out (b ∷ l) zero = refl
-run-skip state store out (b ∷ l) (suc skip) = run-skip state store out l skip
+-- after a length that was read whole, less is left
+shorter : (l : List ℕ) (m : ℕ) → lengthOf lengthWidth (take lengthWidth l) ≡ stated m → length (drop m (drop lengthWidth l)) + 2 ≤ length l
+shorter l m e =
+    let s = stated-within lengthWidth (take lengthWidth l) m (sym e) in
+    omega (arith, s .0, length-take lengthWidth l, length-drop lengthWidth l, length-drop m (drop lengthWidth l))
 
-drop-next : (b : ℕ) (l : List ℕ) (n : ℕ) → 1 ≤ n → drop (n - 1) l ≡ drop n (b ∷ l)
-drop-next b l zero h = absurd (omega arith)
-drop-next b l (suc n) h = let e : suc n - 1 ≡ n = omega arith in ap (λ (i : ℕ). drop i l) e
-
-run-front : (l : List ℕ) (h : Held) (store out : List ℕ) → Ready h store out
-    → ((m : List ℕ) → length m < length l → (h′ : Held) (store′ out′ : List ℕ) → Ready h′ store′ out′
-    → runFrom (stateOf h′) store′ out′ m 0 ≡ unpackedFrom h′ (recordsOf lengthWidth m .packets))
-    → runFrom (stateOf h) store out l 0 ≡ unpackedFrom h (recordsOf lengthWidth l .packets)
-unfolding runFrom recordsFrom unpackedFrom
-run-front [] h store out r shorter = refl
-run-front (b ∷ l) h store out r shorter =
-    by-length h store out (b ∷ l) r (λ span s t o. runFrom s t o l (span - 1))
-    (λ n e h′ store′ out′ r′.
-    run-skip (stateOf h′) store′ out′ l (lengthWidth + n - 1)
-    ∙ shorter (drop (lengthWidth + n - 1) l) (omega (arith, length-drop (lengthWidth + n - 1) l)) h′ store′ out′ r′
-    ∙ ap (λ (m : List ℕ). unpackedFrom h′ (recordsOf lengthWidth m .packets)) (drop-next b l (lengthWidth + n) (omega arith)))
-    (lengthOf lengthWidth (take lengthWidth (b ∷ l))) refl
-
-run-records : (most : ℕ) (l : List ℕ) → length l ≤ most → (h : Held) (store out : List ℕ) → Ready h store out
-    → runFrom (stateOf h) store out l 0 ≡ unpackedFrom h (recordsOf lengthWidth l .packets)
-run-records zero l m h store out r = run-front l h store out r (λ k s. absurd (omega arith))
-run-records (suc most) l m h store out r = run-front l h store out r (λ k s. run-records most k (omega arith))
+run-records : (most n : ℕ) → n ≤ most → (l : List ℕ) → length l + 4 ≤ n → Comes n l
+unfolding loop
+run-records zero n b l a k h c s r w y = absurd (omega arith)
+run-records (suc most) zero b l a k h c s r w y = absurd (omega arith)
+run-records (suc most) (suc n) b l a k h c s r w y =
+    ap (also w y)
+    (by-length k h c s r l n (omega arith)
+    (λ m e j q. run-records most j (omega arith) (drop m (drop lengthWidth l)) (omega (arith, shorter l m e)))
+    (lengthOf lengthWidth (take lengthWidth l)) refl)
 
 -- ---- the file
 
@@ -121,10 +193,22 @@ unfolding headOf
 head-first [] = refl
 head-first (b ∷ l) = refl
 
-pub run-unpacks : (store out file : List ℕ) → length store ≡ fragmentStore → length out ≡ outputBytes → runOf store out file ≡ unpackOf file
-unfolding unpackedFrom
-run-unpacks store out file s o = ap (runHeaded store out (drop 1 file)) (head-first file) ∙ go (headOf file)
+-- with the stores of the rules, whatever they hold, and turns for each byte and five more
+pub run-unpacks : (turns : ℕ) (s : Stores) (file : List ℕ) → length (s .store) ≡ fragmentStore → length (s .out) ≡ outputBytes → length file + 5 ≤ turns
+    → runOf turns s file ≡ record { written = unpackOf file; said = unpackSays file }
+unfolding loop unpackedFrom
+run-unpacks zero s file p q h = absurd (omega arith)
+run-unpacks (suc n) s file p q h =
+    ap By (head-first file) ∙ go (headOf file)
   where
-    go : (a : Answer ℕ) → runHeaded store out (drop 1 file) a ≡ unpackedFrom fresh (standing (trainBy lengthWidth (drop 1 file) a))
-    go (given v) = run-records (length (drop 1 file)) (drop 1 file) (omega arith) fresh store out (record { holding = holding-fresh store; store-is = s; out-is = o })
-    go (refused n at) = refl
+    start : Place
+    start = startsWith .place
+
+    By : Answer ℕ → Output
+    By a =
+        let t = versionTold start a in
+        also [] [] (run n t (record { store = s .store; out = front (t .written) (s .out) }) (drop 1 file))
+
+    go : (a : Answer ℕ) → By a ≡ record { written = unpackedFrom fresh (standing (trainBy lengthWidth (drop 1 file) a)); said = saidBy (trainBy lengthWidth (drop 1 file) a) }
+    go (given v) = run-records n n (omega arith) (drop 1 file) (omega (arith, length-drop 1 file)) 0 fresh noLosses s (record { holding = holding-fresh (s .store); store-is = p; out-is = q }) [] []
+    go (refused m at) = run-stops n (omega arith) start _ _ _ (drop 1 file) ∙ ap only (append-nil (lineText _ _))

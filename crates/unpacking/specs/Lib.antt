@@ -1,3 +1,4 @@
 pub mod Unpack
 pub mod Paper
+pub mod Steps
 pub mod Run

@@ -1,12 +1,21 @@
--- `unpack` as a function on bytes: from a train to the OBUs that it writes (G5, G6, L14, L15).
+-- `unpack` as functions on bytes: from a train to the OBUs that it writes, and to what it says (G5 to G7, G15, L14, L15).
 use Prim.Native.Nat.{ℕ}
 use mathlib.Core.List.{List, [], _∷_, _++_}
+use mathlib.Core.Bool.{Bool, false, cond, _&&_}
+use lib.ListN.{length}
+use lib.Dec.{eqb, ltb}
 use Rattle.base.specs.Answers.{Answer, given, refused}
-use Rattle.train.specs.Train.{lengthWidth, Packet, Length, over, stated, bad, Front, ends, holds, stops, bodyOf, packetIn, trainIn, standing}
-use Rattle.receiver.specs.Joining.{Held, fresh}
-use Rattle.receiver.specs.Call.{Taken, taken, receiveAnswer, storeAfter, outputAfter}
+use Rattle.base.specs.Lists.{front}
+use Rattle.base.specs.Words.{ascii}
+use Rattle.train.specs.Train.{lengthWidth, Packet, Length, over, stated, bad, Front, ends, holds, stops, bodyOf, packetIn, Stop, ended, refusedBy, Train, trainIn, standing}
+use Rattle.receiver.specs.Joining.{Held, Lost, fresh}
+use Rattle.receiver.specs.Call.{Taken, taken, outcome}
 use Rattle.receiver.specs.declared.State.{State}
-use Rattle.receiver.specs.declared.Received.{Received}
+use Rattle.turns.specs.Text.{decimal, lineText}
+use Rattle.turns.specs.Orders.{nextCount}
+use Rattle.turns.specs.declared.Subject.the-variants as subject
+use Rattle.turns.specs.declared.Word.the-variants as word
+use Rattle.unpacking.specs.declared.losses.Losses.{Losses}
 
 -- L14, L15: the bytes of a record after its length, of the output, and of the fragment store
 abbrev pub payloadBytes : ℕ
@@ -41,6 +50,72 @@ unpackedFrom h (p ∷ ps) = writtenFor (turn h p) ++ unpackedFrom (heldAfter h (
 abbrev pub unpackOf : List ℕ → List ℕ
 unpackOf file = unpackedFrom fresh (standing (trainIn lengthWidth file))
 
+-- ---- what is lost (G15): packets passed over, open fragments and leading elements thrown away
+
+abbrev pub noLosses : Losses
+noLosses = record { packets = 0; fragments = 0; elements = 0 }
+
+-- one more, if it is so
+abbrev pub countedIf : Bool → ℕ → ℕ
+countedIf so k = cond so (nextCount k) k
+
+-- by what the receiver makes of a packet
+abbrev pub withTaken : Losses → Lost → Losses
+withTaken c l = record { packets = c .packets; fragments = countedIf (l .fragment) (c .fragments); elements = countedIf (l .element) (c .elements) }
+
+abbrev pub withPassed : Losses → Losses
+withPassed c = record { packets = nextCount (c .packets); fragments = c .fragments; elements = c .elements }
+
+abbrev pub lossesAfter : Losses → Answer Taken → Losses
+lossesAfter c (given t) = withTaken c (t .lost)
+lossesAfter c (refused n at) = withPassed c
+
+-- a fragment of so many bytes is still open at the end
+abbrev pub withOpen : Losses → ℕ → Losses
+withOpen c bytes = withTaken c (record { fragment = ltb 0 bytes; element = false })
+
+-- those of packets, where h is held before them
+unfoldable pub lossesFrom : Losses → Held → List Packet → Losses
+lossesFrom c h [] = withOpen c (length (h .fragment))
+lossesFrom c h (p ∷ ps) = lossesFrom (lossesAfter c (turn h p)) (heldAfter h (turn h p)) ps
+
+-- ---- what is said of it (G7)
+
+-- of record k, by what the receiver makes of its packet
+abbrev pub saidFor : ℕ → Answer Taken → List ℕ
+saidFor k (given t) = []
+saidFor k (refused n at) = lineText (subject.Record k) (word.Refused n)
+
+-- of the record where reading stops
+abbrev pub saidAt : ℕ → Stop → List ℕ
+saidAt k ended = []
+saidAt k (refusedBy n) = lineText (subject.Record k) (word.Refused n)
+
+unfoldable pub saidFrom : ℕ → Held → List Packet → Stop → List ℕ
+saidFrom k h [] stop = saidAt k stop
+saidFrom k h (p ∷ ps) stop = saidFor k (turn h p) ++ saidFrom (nextCount k) (heldAfter h (turn h p)) ps stop
+
+-- G15, at the end: one line, if something was lost
+unfoldable pub lossesLine : Losses → List ℕ
+lossesLine c =
+    ascii "lost: " ++ (decimal (c .packets) ++ (ascii " packets passed over, "
+    ++ (decimal (c .fragments) ++ (ascii " open fragments, "
+    ++ (decimal (c .elements) ++ ascii " leading elements\n")))))
+
+abbrev pub isNone : Losses → Bool
+isNone c = eqb (c .packets) 0 && (eqb (c .fragments) 0 && eqb (c .elements) 0)
+
+abbrev pub saidOf : Losses → List ℕ
+saidOf c = cond (isNone c) [] (lossesLine c)
+
+abbrev pub saidBy : Answer Train → List ℕ
+saidBy (given t) = saidFrom 0 fresh (t .packets) (t .stop) ++ saidOf (lossesFrom noLosses fresh (t .packets))
+saidBy (refused n at) = lineText subject.Train (word.Refused n)
+
+-- all lines on standard error
+abbrev pub unpackSays : List ℕ → List ℕ
+unpackSays file = saidBy (trainIn lengthWidth file)
+
 -- ---- the length of a record: how many bytes are to be read
 
 abbrev pub statedIn : Length → ℕ
@@ -50,39 +125,35 @@ statedIn (bad k) = 0
 
 -- ---- one record, of which number and payload were read
 
--- the packet is taken, or passed over with the number of its refusal; or reading stops
-pub data Step : Type 0 where
-  takes : Received → Step
-  passes : ℕ → Step
-  breaks : ℕ → Step
-  quits : Step
+-- its packet is taken, or passed over with the number of its refusal; or reading stops
+pub data Step (A : Type 0) : Type 0 where
+  takes : A → Step A
+  passes : ℕ → Step A
+  breaks : ℕ → Step A
+  quits : Step A
 
-abbrev pub stepBy : Answer Received → Step
-stepBy (given r) = takes r
+abbrev pub stepBy : {A : Type 0} → Answer A → Step A
+stepBy (given a) = takes a
 stepBy (refused n at) = passes n
 
-abbrev pub stepAt : State → List ℕ → List ℕ → List ℕ → Front → Step
+abbrev pub stepAt : State → List ℕ → List ℕ → List ℕ → Front → Step Taken
 stepAt state body store out ends = quits
 stepAt state body store out (stops k) = breaks k
-stepAt state body store out (holds h) = stepBy (receiveAnswer state (packetIn body h .number) (packetIn body h .payload) store out)
+stepAt state body store out (holds h) = stepBy (outcome state (packetIn body h .number) (packetIn body h .payload) store out)
 
 -- of a record that states n bytes, where these were read
-unfoldable pub stepOf : State → ℕ → List ℕ → List ℕ → List ℕ → Step
+unfoldable pub stepOf : State → ℕ → List ℕ → List ℕ → List ℕ → Step Taken
 stepOf state n body store out = stepAt state body store out (bodyOf n 0 body)
 
 -- store and output after it
-abbrev pub storeAt : State → List ℕ → List ℕ → List ℕ → Front → List ℕ
-storeAt state body store out ends = store
-storeAt state body store out (stops k) = store
-storeAt state body store out (holds h) = storeAfter state (packetIn body h .number) (packetIn body h .payload) store out
+abbrev pub storeBy : Step Taken → List ℕ → List ℕ
+storeBy (takes t) store = front (t .held .fragment) store
+storeBy (passes n) store = store
+storeBy (breaks n) store = store
+storeBy quits store = store
 
-abbrev pub outAt : State → List ℕ → List ℕ → List ℕ → Front → List ℕ
-outAt state body store out ends = out
-outAt state body store out (stops k) = out
-outAt state body store out (holds h) = outputAfter state (packetIn body h .number) (packetIn body h .payload) store out
-
-unfoldable pub storeOf : State → ℕ → List ℕ → List ℕ → List ℕ → List ℕ
-storeOf state n body store out = storeAt state body store out (bodyOf n 0 body)
-
-unfoldable pub outOf : State → ℕ → List ℕ → List ℕ → List ℕ → List ℕ
-outOf state n body store out = outAt state body store out (bodyOf n 0 body)
+abbrev pub writtenBy : Step Taken → List ℕ
+writtenBy (takes t) = t .bytes
+writtenBy (passes n) = []
+writtenBy (breaks n) = []
+writtenBy quits = []

@@ -1,77 +1,276 @@
-// The steps of `unpack`, on lent bytes: a fresh receiver, one record of a train given to it (G5, L14, L15).
-use base::Refusal;
-use receiver::Receipt;
-use receiver::Received;
+// `unpack` as steps on lent bytes: all that it decides (G1, G5 to G7, G14, G15, L14, L15). The program does as each turn orders.
+mod losses;
+mod records;
+
+use losses::Losses;
 use receiver::State;
+use records::RecordStep;
+use train::HeadRead;
 use train::LengthRead;
-use train::RecordRead;
+use turns::Came;
+use turns::Order;
+use turns::Subject;
+use turns::Word;
 ghost use mathlib.Core.Path.{_≡_};
 ghost use Prim.Native.Nat.{_≤_};
+ghost use mathlib.Core.List.{[]};
 ghost use lib.ListN.{length};
-ghost use Rattle.train.specs.Train.{lengthWidth, leastStated, lengthOf};
-ghost use Rattle.train.specs.Paper.{paperLength};
-ghost use Rattle.receiver.specs.Joining.{fresh};
-ghost use Rattle.receiver.specs.Call.{stateOf};
-ghost use Rattle.unpacking.specs.Unpack.{payloadBytes, statedIn, stepOf, storeOf, outOf};
-ghost use Rattle.unpacking.specs.Paper.{paperStep};
+ghost use Rattle.base.specs.Lists.{front};
+ghost use Rattle.train.specs.Train.{lengthWidth, leastStated, lengthOf, headOf};
+ghost use Rattle.turns.specs.Text.{lineBytes};
+ghost use Rattle.turns.specs.Orders.{arrival, says};
+ghost use Rattle.unpacking.specs.Unpack.{outputBytes, stepOf, storeBy, writtenBy};
+ghost use Rattle.unpacking.specs.Steps.{awaits, next, readOf, writtenOf, startsWith, closeTold, versionTold, lengthTold, bodyTold, told, storeNext, Possible, Gives, Lent};
 
-// The bytes of a record after its length, of the output, and of the fragment store (L14, L15).
+// The bytes of the version, of a record after its length, of the output, and of the fragment store (L14, L15).
+const VERSION_BYTES: usize = 1;
+
 pub const PAYLOAD_BYTES: usize = 65536;
 
 pub const OUTPUT_BYTES: usize = 65536;
 
 pub const FRAGMENT_STORE: usize = 32768;
 
-// What a record leads to: its packet is taken, or passed over; or reading stops, as the record is bad or there is none.
-pub enum RecordStep {
-    Taken(Received),
-    PassedOver(Refusal),
-    Broken(Refusal),
-    End,
+// What a run waits for: the version byte, a record's length, number and payload of a record that states so many bytes, the close
+// of the run, or nothing.
+pub enum Wait {
+    Version,
+    Length,
+    Body(usize),
+    Close,
+    Nothing,
 }
 
-// The state of a receiver that has taken nothing (V1).
-pub fn fresh_state() -> State
-    ensures { λ r. ⌜ r ≡ stateOf fresh ⌝ }
+// Where a run stands: what it waits for, how many records came before, the receiver's state, and what was lost.
+pub struct Place {
+    pub wait: Wait,
+    pub count: u64,
+    pub state: State,
+    pub losses: Losses,
+}
+
+// What the program does now, and where it then stands.
+pub struct Turn {
+    pub place: Place,
+    pub order: Order,
+}
+
+// The same record, with this to wait for.
+fn awaiting(place: Place, wait: Wait) -> Place
+    ensures { λ r. ⌜ r ≡ awaits place wait ⌝ }
 {
-    State {
-        begun: false,
-        last: 0,
-        open: 0,
+    let state = place.state;
+    let losses = place.losses;
+    Place {
+        wait: wait,
+        count: place.count,
+        state: state,
+        losses: losses,
     }
 }
 
-// The length of the next record, or what there is of it; the payload buffer has room for so many bytes.
-pub fn read_stated(field: &[u8]) -> LengthRead
-    ensures { λ r. ⌜ (paperLength r ≡ lengthOf lengthWidth (now (field .entry))) × (statedIn (paperLength r) ≤ payloadBytes) ⌝ }
+// The next record, with this state and these losses.
+fn following(place: Place, state: State, losses: Losses) -> Place
+    ensures { λ r. ⌜ r ≡ next place state losses ⌝ }
 {
-    train::read_length(field)
+    Place {
+        wait: Wait::Length,
+        count: turns::next_count(place.count),
+        state: state,
+        losses: losses,
+    }
 }
 
-// Gives the receiver the packet of a record that states so many bytes, of which these were read.
-pub fn unpack_record(
-    state: State,
-    stated: usize,
-    body: &[u8],
-    store: &mut [u8],
-    out: &mut [u8],
-) -> RecordStep
-    requires { ⌜ leastStated ≤ stated ⌝ }
-    ensures { λ r. ⌜ (paperStep r ≡ stepOf state stated (now (body .entry)) (now (store .entry)) (now (out .entry)))
-        × (now (store .exit) ≡ storeOf state stated (now (body .entry)) (now (store .entry)) (now (out .entry)))
-        × (now (out .exit) ≡ outOf state stated (now (body .entry)) (now (store .entry)) (now (out .entry))) ⌝ }
+// What a run begins with: the version byte is read.
+pub fn start() -> Turn
+    ensures { λ r. ⌜ Gives startsWith r [] [] ⌝ }
 {
-    match train::read_body(body, stated) {
-        RecordRead::End => RecordStep::End,
-        RecordRead::Refused(refusal) => RecordStep::Broken(refusal),
-        RecordRead::Found(head) => {
-            let number = head.number;
-            let start = head.start;
-            let end = start + head.length;
-            match receiver::receive(state, number, &body[start..end], store, out) {
-                Receipt::Refused(refusal) => RecordStep::PassedOver(refusal),
-                Receipt::Received(received) => RecordStep::Taken(received),
+    let state = State {
+        begun: false,
+        last: 0,
+        open: 0,
+    };
+    let losses = losses::none();
+    Turn {
+        place: Place {
+            wait: Wait::Version,
+            count: 0,
+            state: state,
+            losses: losses,
+        },
+        order: turns::ask(0, VERSION_BYTES),
+    }
+}
+
+// The run is at its end: what was lost is said, if anything was.
+fn close(place: Place, line: &mut [u8]) -> Turn
+    requires { ⌜ length (now line) ≡ lineBytes ⌝ }
+    ensures { λ r. ⌜ Gives (closeTold place) r (now (line .entry)) (now (line .exit)) ⌝ }
+{
+    let state = place.state;
+    let lost = losses::with_open(place.losses, state.open);
+    let last = awaiting(place, Wait::Nothing);
+    if losses::is_none(lost) {
+        return Turn {
+            place: last,
+            order: turns::over(),
+        };
+    }
+    let said = losses::put_losses(lost, line);
+    Turn {
+        place: last,
+        order: turns::tell(said, 0),
+    }
+}
+
+// A line is said, and then this is waited for; nothing is read.
+fn say(place: Place, wait: Wait, subject: Subject, word: Word, line: &mut [u8]) -> Turn
+    requires { ⌜ (length (now line) ≡ lineBytes) × Possible wait ⌝ }
+    ensures { λ r. ⌜ Gives (says (awaits place wait) subject word 0) r (now (line .entry)) (now (line .exit)) ⌝ }
+{
+    Turn {
+        place: awaiting(place, wait),
+        order: turns::say(subject, word, 0, line),
+    }
+}
+
+// After the version byte, or nothing.
+fn version_step(place: Place, got: &[u8], line: &mut [u8]) -> Turn
+    requires { ⌜ length (now line) ≡ lineBytes ⌝ }
+    ensures { λ r. ⌜ Gives (versionTold place (headOf (now (got .entry)))) r (now (line .entry)) (now (line .exit)) ⌝ }
+{
+    match train::read_head(got) {
+        HeadRead::Train(_) => Turn {
+            place: awaiting(place, Wait::Length),
+            order: turns::ask(0, train::LENGTH_WIDTH),
+        },
+        HeadRead::Refused(refusal) => {
+            let word = Word::Refused(base::number(refusal));
+            say(place, Wait::Close, Subject::Train, word, line)
+        }
+    }
+}
+
+// After a record's length, or what there was of it.
+fn length_step(place: Place, got: &[u8], line: &mut [u8]) -> Turn
+    requires { ⌜ length (now line) ≡ lineBytes ⌝ }
+    ensures { λ r. ⌜ Gives (lengthTold place (lengthOf lengthWidth (now (got .entry)))) r (now (line .entry)) (now (line .exit)) ⌝ }
+{
+    match records::read_stated(got) {
+        LengthRead::End => close(place, line),
+        LengthRead::Refused(refusal) => {
+            let word = Word::Refused(base::number(refusal));
+            say(place, Wait::Close, Subject::Record(place.count), word, line)
+        }
+        LengthRead::Stated(stated) => {
+            let bytes = stated.bytes;
+            Turn {
+                place: awaiting(place, Wait::Body(bytes)),
+                order: turns::ask(0, bytes),
             }
         }
+    }
+}
+
+// After number and payload of a record that states so many bytes, or what there was of them.
+fn body_step(
+    place: Place,
+    stated: usize,
+    got: &[u8],
+    store: &mut [u8],
+    out: &mut [u8],
+    line: &mut [u8],
+) -> Turn
+    requires { ⌜ (leastStated ≤ stated) × (length (now out) ≡ outputBytes) × (length (now line) ≡ lineBytes) ⌝ }
+    ensures { λ r. ⌜ Gives (bodyTold place (stepOf (place .state) stated (now (got .entry)) (now (store .entry)) (now (out .entry)))) r (now (line .entry)) (now (line .exit))
+        × (now (store .exit) ≡ storeBy (stepOf (place .state) stated (now (got .entry)) (now (store .entry)) (now (out .entry))) (now (store .entry)))
+        × (now (out .exit) ≡ front (writtenBy (stepOf (place .state) stated (now (got .entry)) (now (store .entry)) (now (out .entry)))) (now (out .entry))) ⌝ }
+{
+    let state = place.state;
+    let before = place.losses;
+    let record = Subject::Record(place.count);
+    match records::unpack_record(state, stated, got, store, out) {
+        RecordStep::End => close(place, line),
+        RecordStep::Broken(refusal) => {
+            let word = Word::Refused(base::number(refusal));
+            say(place, Wait::Close, record, word, line)
+        }
+        RecordStep::PassedOver(refusal) => {
+            let word = Word::Refused(base::number(refusal));
+            Turn {
+                place: following(place, state, losses::with_passed(before)),
+                order: turns::say(record, word, train::LENGTH_WIDTH, line),
+            }
+        }
+        RecordStep::Taken(taken) => {
+            let after = taken.state;
+            let lost = losses::with_taken(before, taken.fragment_lost, taken.element_lost);
+            Turn {
+                place: following(place, after, lost),
+                order: turns::ask(taken.bytes, train::LENGTH_WIDTH),
+            }
+        }
+    }
+}
+
+// What a run reads where it stands, for the line of a failed read.
+fn read_subject(wait: Wait, k: u64) -> Subject
+    ensures { λ r. ⌜ r ≡ readOf wait k ⌝ }
+{
+    match wait {
+        Wait::Version => Subject::Train,
+        Wait::Length => Subject::Record(k),
+        Wait::Body(_) => Subject::Record(k),
+        Wait::Close => Subject::Record(k),
+        Wait::Nothing => Subject::Record(k),
+    }
+}
+
+// Whose bytes were written before the length of record k is read, for the line of a failed write.
+fn written_subject(k: u64) -> Subject
+    ensures { λ r. ⌜ r ≡ writtenOf k ⌝ }
+{
+    if k == 0 {
+        Subject::Train
+    } else {
+        Subject::Record(k - 1)
+    }
+}
+
+// The next turn, by what came of the one before: all that `unpack` decides.
+pub fn step(
+    place: Place,
+    came: Came,
+    input: &[u8],
+    store: &mut [u8],
+    out: &mut [u8],
+    line: &mut [u8],
+) -> Turn
+    requires { ⌜ Lent place came (now input) (now store) (now out) (now line) ⌝ }
+    ensures { λ r. ⌜ Gives (told place (arrival came (now (input .entry))) (now (store .entry)) (now (out .entry))) r (now (line .entry)) (now (line .exit))
+        × (now (store .exit) ≡ storeNext place (arrival came (now (input .entry))) (now (store .entry)) (now (out .entry)))
+        × (now (out .exit) ≡ front (told place (arrival came (now (input .entry))) (now (store .entry)) (now (out .entry)) .written) (now (out .entry))) ⌝ }
+{
+    let wait = place.wait;
+    let count = place.count;
+    match came {
+        Came::ReadFailed => {
+            let about = read_subject(wait, count);
+            say(place, Wait::Nothing, about, Word::ReadFailed, line)
+        }
+        Came::WriteFailed => {
+            let about = written_subject(count);
+            say(place, Wait::Nothing, about, Word::WriteFailed, line)
+        }
+        Came::Read(n) => match wait {
+            Wait::Version => version_step(place, &input[..n], line),
+            Wait::Length => length_step(place, &input[..n], line),
+            Wait::Body(stated) => body_step(place, stated, &input[..n], store, out, line),
+            Wait::Close => close(place, line),
+            Wait::Nothing => Turn {
+                place: place,
+                order: turns::over(),
+            },
+        },
     }
 }

@@ -139,9 +139,9 @@ same-length-10 c = search needs
 
 returns-5 : tie.Need-returns-5
 returns-5 c =
-    let b = counted (c .before .before .before .before .before .before .before .before .before .before .before .before .before .before) in
-    taking-all _ _ _ _ _ _ _ _ _ _ (taking (c .before .before .before .before .before .before .before .before .before .before .before .before .before .before .before .before .before .before .before .before .before .before)) (c .before .before .before .before .before .before .before .before .before .before .before .before .before .before .before .before .before .before .before .before .before .before .before .before .before .before .before .before .before .before .before .before .args .out .now) (b .0) (c .before .before .before .before .before .before .before .before .before .before .before .before .before .left-open .result) _ (b .1) (c .before .before .before .before .before .before .before .before .before .before .before .before .before .left-open .ensures) refl (c .before .before .before .before .before .before .before .before .before .before .before .if1 .left) (c .before .before .before .before .before .before .before .before .before .before .if2 .left)
-    (omega (arith, c .before .before .before .before .before .before .before .before .before .if3 .left, b .2, ap length (c .before .before .before .before .before .before .before .before .before .before .before .before .before .before .before .before .before .before .before .count-out .ensures .1))) _ _ _ (b .2) (c .before .before .copy .ensures) (c .before .before .before .before .before .before .write-out .ensures ∙ ap₂ putFirst (c .before .before .before .before .before .before .before .before .before .before .before .before .before .before .before .before .before .before .before .count-out .ensures .1) (b .1))
+    let b = counted (c .before .before .before .before .before .before .before .before .before .before .before .before .before .before .before) in
+    taking-all _ _ _ _ _ _ _ _ _ _ (taking (c .before .before .before .before .before .before .before .before .before .before .before .before .before .before .before .before .before .before .before .before .before .before .before)) (c .before .before .before .before .before .before .before .before .before .before .before .before .before .before .before .before .before .before .before .before .before .before .before .before .before .before .before .before .before .before .before .before .before .args .out .now) (b .0) (c .before .before .before .before .before .before .before .before .before .before .before .before .before .before .left-open .result) _ (b .1) (c .before .before .before .before .before .before .before .before .before .before .before .before .before .before .left-open .ensures) refl (c .before .before .before .before .before .before .before .before .before .before .before .before .if1 .left) (c .before .before .before .before .before .before .before .before .before .before .before .if2 .left)
+    (omega (arith, c .before .before .before .before .before .before .before .before .before .before .if3 .left, b .2, ap length (c .before .before .before .before .before .before .before .before .before .before .before .before .before .before .before .before .before .before .before .before .count-out .ensures .1))) _ _ _ (b .2) (c .before .before .before .copy .ensures) (c .before .before .before .before .before .before .before .write-out .ensures ∙ ap₂ putFirst (c .before .before .before .before .before .before .before .before .before .before .before .before .before .before .before .before .before .before .before .before .count-out .ensures .1) (b .1))
 
 pub take-packet-spec : {M : Type 1} → statement M
 take-packet-spec =

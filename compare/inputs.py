@@ -1,0 +1,66 @@
+"""Inputs of `pack`, `unpack` and `planlist`, as `programs`, `planlists` and `runs` give them."""
+import rules
+
+STORE = rules.STORE_BYTES
+SMALL = bytes.fromhex("0A 01 7F 32 00")         # a unit of two OBUs
+
+
+def pack_input(mtu, first, *units, version=1):
+    """G2. An input of `pack`."""
+    return bytes([version]) + mtu.to_bytes(2, "big") + first.to_bytes(2, "big") + b"".join(
+        len(unit).to_bytes(4, "big") + unit for unit in units)
+
+
+def train(*records, version=1):
+    """T1, T2. A train of (number, payload)."""
+    return bytes([version]) + b"".join(rules.train_record(number % 65_536, data) for number, data in records)
+
+
+def listed(mtu, unit, length=None, version=1):
+    """G8. An input of `planlist`; `length` is what the head states, where that is not the unit's."""
+    length = len(unit) if length is None else length
+    return bytes([version]) + mtu.to_bytes(2, "big") + length.to_bytes(4, "big") + unit
+
+
+def planlist_inputs():
+    """G8 to G11, by name: 76 inputs of `planlist`; none is cut."""
+    whole = listed(5, SMALL)
+    found = {"unit.plan": whole}
+    for k, (text, mtu, _) in enumerate(rules.UNIT_ROWS):            # the units worked through, U1 to U18 and more
+        row = listed(mtu, bytes.fromhex(text))
+        if row != whole:
+            found["row_%d.plan" % k] = row
+    # bytes left over; other versions; lengths that are not the unit's, some with a high byte set
+    found["surplus.plan"] = whole + b"\0"
+    found["surplus_5.plan"] = whole + SMALL
+    for version, name in ((0, "version_0"), (2, "version"), (255, "version_255")):
+        found[name + ".plan"] = listed(5, SMALL, version=version)
+    for length in (0, 1, 4, 6, 0x0500, 0x050000, 0x05000000, 0x01000005, 0x00010005, 0xFFFFFFFF):
+        found["length_%08x.plan" % length] = listed(5, SMALL, length)
+    # L12: a unit that fills the store, one byte less, one byte more, and one byte more stated
+    for n, name in ((STORE - 1, "under_unit_store"), (STORE, "unit_store"), (STORE + 1, "over_unit_store")):
+        found[name + ".plan"] = listed(65_533, b"\x30" + b"\xA5" * (n - 1))
+    found["stated_over_store.plan"] = listed(65_533, b"\x30" + b"\xA5" * (STORE - 1), STORE + 1)
+    # L13: lists that are filled, and one record more
+    for name, count in (("", 512), ("over_", 513)):
+        found[name + "list.plan"] = listed(1200, b"\x32\x00" * count)
+        found[name + "plan.plan"] = listed(3, b"\x30" + bytes(2 * count - 1))
+    found["dropped_and_list.plan"] = listed(65_533, b"\x12\x00" * 600 + b"\x32\x00" * 512)
+    found["8_before_7.plan"] = listed(65_533, b"\x32\x00" * 513 + b"\x32\x02\xA1")
+    found["8_before_9.plan"] = listed(3, b"\x32\x00" * 513)
+    # the other refusals, away from the unit's first byte; the mtu's limits
+    for number, unit in broken_units().items():
+        found["refused_%d.plan" % number] = listed(20, unit)
+    for mtu in (0, 1, 2, 3, 65_533, 65_534, 65_535):
+        found["mtu_%d.plan" % mtu] = listed(mtu, SMALL)
+    # headers with every digit in its place: Z, Y, W 0 to 3, N, and numbers of several digits
+    many = SMALL + b"\x32\x00" * 5 + b"\x36\x08\x90\x01" + bytes(144) + b"\x32\x02\xA1\xA2" * 3
+    for mtu in (3, 4, 6, 7, 8, 9, 10, 12, 20, 131, 132, 133, 300, 1200):
+        found["headers_%d.plan" % mtu] = listed(mtu, many)
+    return found
+
+
+def broken_units():
+    """R3 to R7, by number: units whose third OBU is refused so."""
+    ends = {3: "36", 4: "32", 5: "32 FF", 6: "32 80 80 80 80 10", 7: "32 01"}
+    return {number: SMALL + bytes.fromhex(end) for number, end in ends.items()}

@@ -1,0 +1,106 @@
+-- A step gives the turn that is told, and leaves the stores ready for it. Assumes nothing.
+use mathlib.Core.Path.{_≡_, refl, sym, ap, _∙_}
+use Prim.Native.Nat.{ℕ, _≤_}
+use native.Mathlib.Omega.{arith}
+use mathlib.Core.List.{List, [], _∷_}
+use lib.ListN.{length, take, set, length-take}
+use lib.Seq.{take-take}
+use Rattle.base.specs.Lists.{front}
+use Rattle.turns.specs.Orders.{Told, Turned, arrival}
+use Rattle.turns.specs.declared.Order.{Order}
+use Rattle.turns.specs.declared.Came.{Came}
+use Rattle.turns.specs.declared.Came.the-variants as came
+use Rattle.packing.specs.Pack.{unitStore, Head, found, none, Length, over, stated, cut, lengthIn, Unit′, cutShort, refusedBy, packed}
+use Rattle.packing.specs.Steps.{recordRoom, headTold, lengthTold, unitTold, toldBy, told, Ready, ReadyBy, ReadyAt, Still, Gives}
+use Rattle.packing.specs.declared.unit.Progress.{Progress}
+use Rattle.packing.specs.declared.Wait.{Wait}
+use Rattle.packing.specs.declared.Wait.the-variants as wait
+use Rattle.packing.specs.declared.Place.{Place}
+use Rattle.packing.specs.declared.Turn.{Turn}
+use Rattle.packing.proofs.Reading.{stated-within}
+
+-- where the run then stands is this place
+pub gives : {t : Told Place} {turn : Turn} {line line′ : List ℕ} (p : Place) → turn .place ≡ p → Still (p .wait) (turn .order)
+    → Turned t (turn .place) (turn .order) line line′ unitStore recordRoom → Gives t turn line line′
+gives p e h w = record { turned = w; still = rw e h }
+
+-- by the case that it is
+pub gives-as : {t u : Told Place} {turn : Turn} {line line′ : List ℕ} → t ≡ u → Gives u turn line line′ → Gives t turn line line′
+gives-as e g = rw e g
+
+-- ---- the stores
+
+module _ (input plan out : List ℕ) where
+  pub ready-as : {p q : Place} → p ≡ q → ReadyAt q input plan out → ReadyAt p input plan out
+  ready-as e r = rw e r
+
+  pub ready-given : {t : Told Place} {turn : Turn} {line line′ : List ℕ} → Gives t turn line line′ → ReadyAt (t .place) input plan out → ReadyAt (turn .place) input plan out
+  ready-given {t} {turn} g r = ready-as {p = turn .place} {q = t .place} (g .turned .0 .place-is) r
+
+  pub head-ready : (p : Place) (x : Head) → ReadyAt (headTold p x .place) input plan out
+  head-ready p (found h) = tt
+  head-ready p none = tt
+
+  pub length-ready : (p : Place) (l : List ℕ) → ReadyAt (lengthTold p (lengthIn l) .place) input plan out
+  length-ready p l = go (lengthIn l) refl
+    where
+      go : (x : Length) → x ≡ lengthIn l → ReadyAt (lengthTold p x .place) input plan out
+      go over e = tt
+      go cut e = tt
+      go (stated s) e = stated-within l s e
+
+-- where packets are waited for
+pub ready-at : (mtu : ℕ) (input plan out : List ℕ) {w : Wait} {g : Progress} → w ≡ wait.Packets g → ReadyBy w mtu input plan out → Ready mtu g (take (g .unit) input) plan out
+ready-at mtu input plan out e r = rw e at r
+
+-- where nothing was read into the input while packets are written
+pub ready-still : (w : Wait) (o : Order) (mtu : ℕ) (input input′ plan out : List ℕ) → Still w o → (o .read ≡ 0 → input′ ≡ input)
+    → ReadyBy w mtu input plan out → ReadyBy w mtu input′ plan out
+ready-still wait.Head o mtu input input′ plan out s k r = tt
+ready-still wait.Length o mtu input input′ plan out s k r = tt
+ready-still (wait.Unit n) o mtu input input′ plan out s k r = r
+ready-still (wait.Packets g) o mtu input input′ plan out s k r = rw (k s) r
+ready-still wait.Nothing o mtu input input′ plan out s k r = tt
+
+-- what stands first in a part of the input stands first in all of it
+pub ready-wider : (w : Wait) (mtu n : ℕ) (input plan out : List ℕ) → ReadyBy w mtu (take n input) plan out → ReadyBy w mtu input plan out
+ready-wider wait.Head mtu n input plan out r = tt
+ready-wider wait.Length mtu n input plan out r = tt
+ready-wider (wait.Unit s) mtu n input plan out r = r
+ready-wider (wait.Packets g) mtu n input plan out r =
+    let within : g .unit ≤ n = omega (arith, r .unit-is, length-take (g .unit) (take n input), length-take n input) in
+    rw (take-take (g .unit) n input within) at r
+ready-wider wait.Nothing mtu n input plan out r = tt
+
+-- ---- what is written: nothing but the version byte and records
+
+pub first-stored : {b : ℕ} (l : List ℕ) → 1 ≤ length l → set l 0 b ≡ front (b ∷ []) l
+first-stored [] h = absurd (omega arith)
+first-stored (a ∷ l) h = refl
+
+pub length-quiet : (p : Place) (x : Length) (l : List ℕ) → l ≡ front (lengthTold p x .written) l
+length-quiet p over l = refl
+length-quiet p cut l = refl
+length-quiet p (stated s) l = refl
+
+pub unit-quiet : (p : Place) (s : ℕ) (x : Unit′) (l : List ℕ) → l ≡ front (unitTold p s x .written) l
+unit-quiet p s cutShort l = refl
+unit-quiet p s (refusedBy k) l = refl
+unit-quiet p s (packed n) l = refl
+
+-- ---- the whole step, where n bytes were read and this was waited for
+
+pub stepped : (p : Place) (c : Came) (n : ℕ) (w : Wait) (input plan out : List ℕ) (written : List ℕ) {turn : Turn} {line line′ written′ : List ℕ} → c ≡ came.Read n → p .wait ≡ w
+    → Gives (toldBy w p (take n input) input) turn line line′
+    → written′ ≡ front (toldBy w p (take n input) input .written) written
+    → ReadyAt (turn .place) input plan out
+    → Gives (told p (arrival c input) input) turn line line′
+    × (written′ ≡ front (told p (arrival c input) input .written) written)
+    × ReadyAt (turn .place) input plan out
+stepped p c n w input plan out written e f g o r =
+    let l = take n input in
+    rw e (
+      gives-as (ap (λ (x : Wait). toldBy x p l input) f) g,
+      o ∙ ap (λ (x : Wait). front (toldBy x p l input .written) written) (sym f),
+      r,
+    )

@@ -1,0 +1,168 @@
+-- The steps of `pack`: what each turn tells the program, by what came of the one before (G2 to G4, G6, G7, G14).
+use Prim.Native.Nat.{ℕ, _+_, _*_, _≤_}
+use mathlib.Core.Path.{_≡_}
+use mathlib.Core.List.{List, [], _∷_}
+use lib.ListN.{length, take, drop}
+use Rattle.obu.specs.Unit.{unitLimit}
+use Rattle.packetizer.specs.Plan.{planNumbers, flatPlan}
+use Rattle.packetizer.specs.Call.{mtuLimit, unitPlan}
+use Rattle.payloader.specs.Payload.{payloadsOf, joined}
+use Rattle.train.specs.Train.{trainVersion, lengthWidth, recordBytes}
+use Rattle.turns.specs.Text.{lineBytes}
+use Rattle.turns.specs.Orders.{nextCount, Told, ends, asks, says, Within, Turned, Arrival, bytes, readFailed, writeFailed, CameWithin}
+use Rattle.turns.specs.declared.Order.{Order}
+use Rattle.turns.specs.declared.Came.{Came}
+use Rattle.turns.specs.declared.Subject.{Subject}
+use Rattle.turns.specs.declared.Subject.the-variants as subject
+use Rattle.turns.specs.declared.Word.the-variants as word
+use Rattle.packing.specs.Pack.{unitStore, listRecords, outputBytes, headWidth, unitWidth, Head, found, none, headIn, Length, over, stated, cut, lengthIn, nextNumber, answerIn, Unit′, cutShort, refusedBy, packed, unitIn}
+use Rattle.packing.specs.declared.unit.Progress.{Progress}
+use Rattle.packing.specs.declared.Wait.{Wait}
+use Rattle.packing.specs.declared.Wait.the-variants as wait
+use Rattle.packing.specs.declared.Place.{Place}
+use Rattle.packing.specs.declared.Turn.{Turn}
+
+-- the numbers of a list, and the bytes that are lent for a record
+abbrev pub listNumbers : ℕ
+listNumbers = listRecords * planNumbers
+
+abbrev pub recordRoom : ℕ
+recordRoom = 65540
+
+-- the same unit, with this to wait for; and the next unit
+abbrev pub awaits : Place → Wait → Place
+awaits p w = record { wait = w; count = p .count; mtu = p .mtu; number = p .number }
+
+abbrev pub next : Place → Place
+next p = record { wait = wait.Length; count = nextCount (p .count); mtu = p .mtu; number = p .number }
+
+-- ---- what is told after each arrival
+
+-- what a run begins with
+abbrev pub startsWith : Told Place
+startsWith = asks (record { wait = wait.Head; count = 0; mtu = 0; number = 0 }) [] headWidth
+
+-- after the head: the version byte of the train is written; or there is none
+abbrev pub headTold : Place → Head → Told Place
+headTold p (found h) = asks (record { wait = wait.Length; count = p .count; mtu = h .mtu; number = h .first }) (trainVersion ∷ []) unitWidth
+headTold p none = says (awaits p wait.Nothing) subject.Input word.NoHead 0
+
+-- after a length: the end, or a unit that is cut or over the store
+abbrev pub lengthTold : Place → Length → Told Place
+lengthTold p over = ends (awaits p wait.Nothing)
+lengthTold p (stated s) = asks (awaits p (wait.Unit s)) [] s
+lengthTold p cut = says (awaits p wait.Nothing) (subject.Unit (p .count)) word.Cut 0
+
+-- the first of n packets of a unit of s bytes is next
+abbrev pub begins : ℕ → ℕ → Progress
+begins s n = record { unit = s; packets = n; packet = 0; from = 0 }
+
+-- after a unit of s bytes: its packets come, or the run stops
+abbrev pub unitTold : Place → ℕ → Unit′ → Told Place
+unitTold p s (packed n) = asks (awaits p (wait.Packets (begins s n))) [] 0
+unitTold p s (refusedBy k) = says (awaits p wait.Nothing) (subject.Unit (p .count)) (word.Refused k) 0
+unitTold p s cutShort = says (awaits p wait.Nothing) (subject.Unit (p .count)) word.Cut 0
+
+-- the step on a unit of s bytes, of which these were read
+abbrev pub stepIn : ℕ → ℕ → List ℕ → Unit′
+stepIn = unitIn (answerIn listRecords listRecords outputBytes)
+
+-- with these payloads left: the record of the first is written; or the next unit is read
+abbrev pub after : Progress → ℕ → Progress
+after g size = record { unit = g .unit; packets = g .packets; packet = g .packet + 1; from = g .from + size }
+
+abbrev pub leftTold : Place → Progress → List (List ℕ) → Told Place
+leftTold p g [] = asks (next p) [] unitWidth
+leftTold p g (x ∷ more) =
+    asks
+    (record { wait = wait.Packets (after g (length x)); count = p .count; mtu = p .mtu; number = nextNumber (p .number) })
+    (recordBytes lengthWidth (record { number = p .number; payload = x })) 0
+
+abbrev pub packetTold : Place → Progress → List (List ℕ) → Told Place
+packetTold p g payloads = leftTold p g (drop (g .packet) payloads)
+
+abbrev pub toldBy : Wait → Place → List ℕ → List ℕ → Told Place
+toldBy wait.Head p l input = headTold p (headIn l)
+toldBy wait.Length p l input = lengthTold p (lengthIn l)
+toldBy (wait.Unit s) p l input = unitTold p s (stepIn (p .mtu) s l)
+toldBy (wait.Packets g) p l input = packetTold p g (payloadsOf (p .mtu) (take (g .unit) input))
+toldBy wait.Nothing p l input = ends p
+
+-- after a read or a write that failed: a line, and then nothing more (G14). What was being read, and what was written before
+abbrev pub readOf : Wait → ℕ → Subject
+readOf wait.Head k = subject.Input
+readOf wait.Length k = subject.Unit k
+readOf (wait.Unit s) k = subject.Unit k
+readOf (wait.Packets g) k = subject.Unit k
+readOf wait.Nothing k = subject.Unit k
+
+abbrev pub writtenOf : Wait → ℕ → Subject
+writtenOf wait.Head k = subject.Train
+writtenOf wait.Length k = subject.Train
+writtenOf (wait.Unit s) k = subject.Unit k
+writtenOf (wait.Packets g) k = subject.Unit k
+writtenOf wait.Nothing k = subject.Unit k
+
+-- where the input's store holds this, what arrived first
+abbrev pub told : Place → Arrival → List ℕ → Told Place
+told p (bytes l) input = toldBy (p .wait) p l input
+told p readFailed input = says (awaits p wait.Nothing) (readOf (p .wait) (p .count)) word.ReadFailed 0
+told p writeFailed input = says (awaits p wait.Nothing) (writtenOf (p .wait) (p .count)) word.WriteFailed 0
+
+-- ---- what a step asks, and what it gives
+
+-- the payloads of a unit that are not written yet, one after the other
+abbrev pub leftOf : ℕ → List ℕ → Progress → List ℕ
+leftOf mtu unit g = joined (drop (g .packet) (payloadsOf mtu unit))
+
+-- plan and output hold those of this unit
+pub record Ready (mtu : ℕ) (g : Progress) (unit plan out : List ℕ) : Type 0 where
+  pub unit-is : length unit ≡ g .unit
+  pub small : length unit ≤ unitLimit
+  pub most : mtu ≤ mtuLimit
+  pub packets-is : g .packets ≡ length (unitPlan mtu unit)
+  pub plan-room : g .packets * planNumbers ≤ length plan
+  pub plan-is : take (g .packets * planNumbers) plan ≡ flatPlan (unitPlan mtu unit)
+  pub out-room : g .from + length (leftOf mtu unit g) ≤ length out
+  pub out-is : take (length (leftOf mtu unit g)) (drop (g .from) out) ≡ leftOf mtu unit g
+
+-- what has to hold of the stores where a run stands: a unit that is read fits; that whose packets are written stands first in the input
+abbrev pub ReadyBy : Wait → ℕ → List ℕ → List ℕ → List ℕ → Type 0
+ReadyBy wait.Head mtu input plan out = Unit {0}
+ReadyBy wait.Length mtu input plan out = Unit {0}
+ReadyBy (wait.Unit s) mtu input plan out = s ≤ unitStore
+ReadyBy (wait.Packets g) mtu input plan out = Ready mtu g (take (g .unit) input) plan out
+ReadyBy wait.Nothing mtu input plan out = Unit {0}
+
+abbrev pub ReadyAt : Place → List ℕ → List ℕ → List ℕ → Type 0
+ReadyAt p input plan out = ReadyBy (p .wait) (p .mtu) input plan out
+
+-- what is lent to a step: exactly the stores of L12 to L14
+pub record Lent (p : Place) (c : Came) (input obus plan out written line : List ℕ) : Type 0 where
+  pub input-is : length input ≡ unitStore
+  pub obus-is : length obus ≡ listNumbers
+  pub plan-is : length plan ≡ listNumbers
+  pub out-is : length out ≡ outputBytes
+  pub written-is : length written ≡ recordRoom
+  pub line-is : length line ≡ lineBytes
+  pub came-within : CameWithin c unitStore
+  pub ready : ReadyAt p input plan out
+
+-- while packets are written nothing is read, so the unit stays where it is
+abbrev pub Still : Wait → Order → Type 0
+Still wait.Head o = Unit {0}
+Still wait.Length o = Unit {0}
+Still (wait.Unit s) o = Unit {0}
+Still (wait.Packets g) o = o .read ≡ 0
+Still wait.Nothing o = Unit {0}
+
+-- the turn is the one told
+pub record Gives (t : Told Place) (turn : Turn) (line line′ : List ℕ) : Type 0 where
+  pub turned : Turned t (turn .place) (turn .order) line line′ unitStore recordRoom
+  pub still : Still (turn .place .wait) (turn .order)
+
+-- from here the program can go on: its order can be carried out, and the stores are ready for the next step
+pub record Goes (turn : Turn) (input plan out : List ℕ) : Type 0 where
+  pub within : Within (turn .order) unitStore recordRoom
+  pub still : Still (turn .place .wait) (turn .order)
+  pub ready : ReadyAt (turn .place) input plan out

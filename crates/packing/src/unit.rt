@@ -1,0 +1,80 @@
+// One unit planned and its payloads made, and one record of them at a time (G3, G4).
+use base::Refusal;
+use payloader::PayloadAnswer;
+ghost use mathlib.Core.Path.{_≡_};
+ghost use Prim.Native.Nat.{ℕ, _+_, _*_, _/_, _≤_};
+ghost use lib.ListN.{length, getD, take, drop};
+ghost use lib.Seq.{sets};
+ghost use Rattle.obu.specs.Unit.{obuNumbers};
+ghost use Rattle.packetizer.specs.Plan.{planNumbers};
+ghost use Rattle.packetizer.specs.Call.{mtuLimit};
+ghost use Rattle.aggregation.specs.Header.{noPacket};
+ghost use Rattle.aggregation.specs.Flat.{packetsIn};
+ghost use Rattle.train.specs.Train.{lengthWidth, recordBytes};
+ghost use Rattle.packing.specs.Pack.{unitStore, answerIn, unitIn};
+ghost use Rattle.packing.specs.Paper.{paperUnit};
+ghost use Rattle.packing.specs.Steps.{begins, Ready};
+
+// The packets of a unit that is packed: how many bytes it has, how many packets, which is the next to be written, and where its
+// payload stands in the output.
+pub struct Progress {
+    pub unit: usize,
+    pub packets: usize,
+    pub packet: usize,
+    pub from: usize,
+}
+
+// A unit is packed, into so many packets; or refused, or cut.
+pub enum UnitAnswer {
+    Packed(usize),
+    Refused(Refusal),
+    Cut,
+}
+
+// How many bytes payload k has.
+pub fn payload_size(plan: &[u32], k: usize) -> usize
+    requires { ⌜ (k + 1) * planNumbers ≤ length (now plan) ⌝ }
+    ensures { λ r. ⌜ r ≡ getD (packetsIn (now (plan .entry))) k noPacket .«packet_size» + 1 ⌝ }
+{
+    let p = aggregation::packet_at(plan, k);
+    p.packet_size as usize + 1
+}
+
+// Writes one record, with a payload that stands at `from`, at the cursor `at`, and returns the cursor after it.
+pub fn put_record(
+    payloads: &[u8],
+    from: usize,
+    size: usize,
+    number: u16,
+    records: &mut [u8],
+    at: usize,
+) -> usize
+    requires { ⌜ (from + size ≤ length (now payloads)) × (at + (4 + size) ≤ length (now records)) × (size ≤ mtuLimit) ⌝ }
+    ensures { λ r. ⌜ (r ≡ at + (4 + size))
+        × (now (records .exit) ≡ sets (now (records .entry)) at (recordBytes lengthWidth (record { number = number; payload = take size (drop from (now (payloads .entry))) }))) ⌝ }
+{
+    let body = train::put_record_head(records, at, number, size as u16);
+    base::copy_bytes(payloads, from, size, records, body)
+}
+
+// Plan and payloads of a unit of so many bytes, which stands at the front of the bytes given, or what there is of it.
+pub fn pack_unit(
+    mtu: usize,
+    stated: usize,
+    bytes: &[u8],
+    obus: &mut [u32],
+    plan: &mut [u32],
+    out: &mut [u8],
+) -> UnitAnswer
+    requires { ⌜ stated ≤ unitStore ⌝ }
+    ensures { λ r. ⌜ (paperUnit r ≡ unitIn (answerIn (length (now (obus .entry)) / obuNumbers) (length (now (plan .entry)) / planNumbers) (length (now (out .entry)))) mtu stated (now (bytes .entry)))
+        × ((n : ℕ) → r ≡ UnitAnswer.Packed n → Ready mtu (begins stated n) (take stated (now (bytes .entry))) (now (plan .exit)) (now (out .exit))) ⌝ }
+{
+    if bytes.len() < stated {
+        return UnitAnswer::Cut;
+    }
+    match payloader::payload(mtu, &bytes[..stated], obus, plan, out) {
+        PayloadAnswer::Refused { refusal, at: _ } => UnitAnswer::Refused(refusal),
+        PayloadAnswer::Written(written) => UnitAnswer::Packed(written.packets),
+    }
+}

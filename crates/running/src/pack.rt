@@ -1,0 +1,58 @@
+// The loop of `pack` (G2 to G4, G6, G7, G12, G14).
+use crate::Streams;
+use packing::Turn;
+ghost use Rattle.packing.specs.Steps.{Goes};
+
+// What a step is lent (L12 to L14).
+const INPUT: usize = packing::UNIT_STORE;
+
+const LIST: usize = packing::LIST_NUMBERS;
+
+const OUT: usize = packing::OUTPUT_BYTES;
+
+const WRITTEN: usize = packing::RECORD_BYTES;
+
+const LINE: usize = turns::LINE_BYTES;
+
+// One turn: the order carried out, and the next step.
+fn next(
+    turn: Turn,
+    streams: Streams,
+    input: &mut [u8; INPUT],
+    obus: &mut [u32; LIST],
+    plan: &mut [u32; LIST],
+    out: &mut [u8; OUT],
+    written: &mut [u8; WRITTEN],
+    line: &mut [u8; LINE],
+) -> Turn
+    requires { ⌜ Goes turn (now input) (now plan) (now out) ⌝ }
+    ensures { λ r. ⌜ Goes r (now (input .exit)) (now (plan .exit)) (now (out .exit)) ⌝ }
+{
+    let came = crate::obey(turn.order, streams, input, written, line);
+    packing::step(turn.place, came, input, obus, plan, out, written, line)
+}
+
+// All turns. Nothing says that the input ends, so they are counted down from a number that no run uses up.
+pub fn run(streams: Streams) {
+    let mut input = [0u8; INPUT];
+    let mut obus = [0u32; LIST];
+    let mut plan = [0u32; LIST];
+    let mut out = [0u8; OUT];
+    let mut written = [0u8; WRITTEN];
+    let mut line = [0u8; LINE];
+    let mut turn = packing::start();
+    let mut left = u64::MAX;
+    while left > 0 && turn.order.more {
+        turn = next(
+            turn,
+            streams,
+            &mut input,
+            &mut obus,
+            &mut plan,
+            &mut out,
+            &mut written,
+            &mut line,
+        );
+        left -= 1;
+    }
+}

@@ -1,0 +1,69 @@
+use mathlib.Core.Path.{refl, sym, ap, _∙_}
+use Prim.Native.Nat.{ℕ}
+use native.Mathlib.Omega.{arith}
+use mathlib.Core.Bool.{true}
+use lib.ListN.{length}
+use Rattle.base.specs.Lists.{front}
+use Rattle.unpacking.specs.declared.Wait.the-variants as wait
+use Rattle.turns.specs.Orders.{tells}
+use Rattle.turns.proofs.Turning.{ended, turned}
+use Rattle.unpacking.specs.Unpack.{withOpen, isNone, lossesLine}
+use Rattle.unpacking.specs.Steps.{awaits}
+use Rattle.unpacking.specs.declared.losses.Losses.{Losses}
+use Rattle.unpacking.proofs.LossesLine.{losses-short}
+use Rattle.unpacking.proofs.Turning.{gives}
+use borrow.Author.Needs.{needs}
+use Rattle.unpacking.proofs.close.Statement.{statement}
+use Rattle.unpacking.proofs.close.Tie as tie
+
+with-open-requires : tie.Need-with-open-requires
+with-open-requires c κs = search needs
+
+awaiting-requires : tie.Need-awaiting-requires
+awaiting-requires c κs = search needs
+
+is-none-requires : tie.Need-is-none-requires
+is-none-requires c κs = search needs
+
+over-requires : tie.Need-over-requires
+over-requires c κs = search needs
+
+returns : tie.Need-returns
+returns c =
+    let p = awaits (c .before .before .before .before .before .before .before .args .place) wait.Nothing in
+    let none = sym (c .before .before .is-none .ensures ∙ ap isNone (c .before .before .before .before .with-open .ensures)) ∙ c .before .if1 .taken in
+    gives p (c .before .before .before .awaiting .ensures) tt (ended p (rw none refl) (c .before .before .before .awaiting .ensures) (c .over .ensures))
+
+put-losses-requires : tie.Need-put-losses-requires
+put-losses-requires c κs = search needs
+
+tell-requires : tie.Need-tell-requires
+tell-requires c κs = search needs
+
+same-length : tie.Need-same-length
+same-length c = search needs
+
+returns-2 : tie.Need-returns-2
+returns-2 c =
+    let p = awaits (c .before .before .before .before .before .before .before .before .before .before .before .args .place) wait.Nothing in
+    let lost = withOpen (c .before .before .before .before .before .before .before .before .before .before .before .args .place .losses) (c .before .before .before .before .before .before .before .before .before .before .before .args .place .state .«open») in
+    let some = sym (c .before .before .before .before .before .before .is-none .ensures ∙ ap isNone (c .before .before .before .before .before .before .before .before .with-open .ensures)) ∙ c .before .before .before .before .before .if1 .left in
+    gives p (c .before .before .before .before .before .before .before .awaiting .ensures) tt
+    (turned (tells p (lossesLine lost) 0) (rw some refl) (c .before .before .before .before .before .before .before .awaiting .ensures)
+    (c .tell .ensures ∙ ap (λ (n : ℕ). record { more = true; write = 0; say = n; read = 0 }) (c .before .before .before .put-losses .ensures .0 ∙ ap (λ (l : Losses). length (lossesLine l)) (c .before .before .before .before .before .before .before .before .with-open .ensures)))
+    (c .before .before .before .put-losses .ensures .1 ∙ ap (λ (l : Losses). front (lossesLine l) (c .before .before .before .before .before .before .before .before .before .before .before .args .line .now)) (c .before .before .before .before .before .before .before .before .with-open .ensures))
+    (omega arith) (omega arith) (losses-short lost))
+
+pub close-spec : {M : Type 1} → statement M
+close-spec =
+    tie.close
+    (tie.spec
+    with-open-requires
+    awaiting-requires
+    is-none-requires
+    over-requires
+    returns
+    put-losses-requires
+    tell-requires
+    same-length
+    returns-2)
