@@ -12,7 +12,8 @@ use lib.Seq.{sets, drop-cons, drop-length}
 use lib.Dec.{eqb}
 use borrow.Author.Tests.{eq-eqb, ne-eqb}
 use Rattle.base.specs.Lists.{Put}
-use Rattle.base.specs.Words.{ascii, words, wordsOf, lines, lineFrom, wordsMost}
+use Rattle.base.specs.Words.{ascii, words, wordsOf, wordsMost}
+use Rattle.base.specs.Inside.{lines, lineFrom}
 use Rattle.base.proofs.Tests.{by-cond}
 
 -- i bytes of a text were looked at, and what is still to be stored of line n completes what is asked for

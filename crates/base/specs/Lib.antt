@@ -1,4 +1,5 @@
 pub mod Refusals
 pub mod Words
+pub mod Inside
 pub mod Answers
 pub mod Lists

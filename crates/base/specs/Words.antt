@@ -1,11 +1,9 @@
 -- The words of each refusal, R1 to R23, which stand behind its number on standard error (G7).
-use Prim.Native.Nat.{ℕ, _+_}
+use Prim.Native.Nat.{ℕ}
 use Prim.Native.Char.{code}
 use Prim.Native.String as string
-use mathlib.Core.List.{List, [], _∷_, _++_}
-use mathlib.Core.Bool.{cond}
+use mathlib.Core.List.{List, [], _∷_}
 use lib.ListN.{getD}
-use lib.Dec.{eqb}
 
 -- a text as its bytes
 abbrev pub ascii : string.String → List ℕ
@@ -44,18 +42,6 @@ words =
 -- the words of a number; none, where no refusal has it
 unfoldable pub wordsOf : ℕ → List ℕ
 wordsOf n = ascii (getD words n "")
-
--- ---- as one text
-
--- a line each
-unfoldable pub lines : List string.String → List ℕ
-lines [] = []
-lines (s ∷ l) = ascii s ++ (10 ∷ lines l)
-
--- what stands on line n of a text whose first byte is on line k
-unfoldable pub lineFrom : ℕ → ℕ → List ℕ → List ℕ
-lineFrom n k [] = []
-lineFrom n k (b ∷ l) = cond (eqb b 10) (lineFrom n (k + 1) l) (cond (eqb k n) (b ∷ lineFrom n k l) (lineFrom n k l))
 
 -- the bytes of all words: more than those of one refusal
 abbrev pub wordsMost : ℕ

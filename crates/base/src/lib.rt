@@ -7,7 +7,8 @@ ghost use lib.ListN.{length, take, drop};
 ghost use lib.Seq.{sets};
 ghost use Rattle.base.specs.Lists.{Put};
 ghost use Rattle.base.specs.Refusals.{numberOf};
-ghost use Rattle.base.specs.Words.{lineFrom, wordsOf, wordsMost};
+ghost use Rattle.base.specs.Words.{wordsOf, wordsMost};
+ghost use Rattle.base.specs.Inside.{lineFrom};
 
 pub enum Refusal {
     MtuOverLimit,

@@ -1,6 +1,6 @@
 // `planlist` as steps on lent bytes: all that it decides (G8 to G14, L12, L13). The program does as each turn orders.
-mod head; // head.rt: the head of the input
-mod text; // text.rt: what is printed
+mod head;
+mod text;
 
 use packetizer::PlanAnswer;
 use turns::Came;

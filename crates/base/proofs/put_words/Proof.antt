@@ -1,5 +1,6 @@
 use borrow.Author.Needs.{needs}
-use Rattle.base.specs.Words.{words, lines}
+use Rattle.base.specs.Words.{words}
+use Rattle.base.specs.Inside.{lines}
 use Rattle.base.proofs.Words.{words-put}
 use Rattle.base.proofs.put_words.Statement.{statement}
 use Rattle.base.proofs.put_words.Tie as tie
