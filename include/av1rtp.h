@@ -125,7 +125,8 @@ uint32_t av1rtp_train_head(const uint8_t *train, size_t train_length, size_t ans
  * answer: 0, number, payload start, payload length. Refusals 22, 23. */
 uint32_t av1rtp_train_record(const uint8_t *train, size_t train_length, size_t at, size_t answer[4]);
 
-/* The four bytes before a payload: `stated` is the payload's length plus 2, which is 3 to 65535. */
+/* The four bytes before a payload: `stated` is the payload's length plus 2, so 3 to 65535. Any `stated` is written, 0 to 2 too, though
+ * no reader takes such a record (23). */
 void av1rtp_train_record_head(uint16_t stated, uint16_t number, uint8_t head[4]);
 
 /* ---- size fields */

@@ -165,7 +165,8 @@ pub fn train_record(train: &[u8], at: usize) -> Result<Option<RecordPlace>, Refu
     Ok((length > 0).then_some(RecordPlace { number: number as u16, start, length }))
 }
 
-/// The four bytes before a payload; `stated` is its length plus 2.
+/// The four bytes before a payload; `stated` is its length plus 2. Any `stated` is written, 0 to 2 too, though no
+/// reader takes such a record (23).
 #[inline]
 pub fn train_record_head(stated: u16, number: u16) -> [u8; 4] {
     ffi::train_record_head(stated, number)

@@ -98,6 +98,7 @@ fn last_of(p: PacketMetadata, n: usize) -> usize
 }
 
 // Record k of a flat plan.
+// Helper: the plan must have a whole record k.
 pub fn packet_at(plan: &[u32], k: usize) -> PacketMetadata
     requires { ⌜ (k + 1) * planNumbers ≤ length (now plan) ⌝ }
     ensures { λ r. ⌜ r ≡ getD (packetsIn (now (plan .entry))) k noPacket ⌝ }

@@ -18,7 +18,7 @@ use Rattle.receiver.specs.Joining.{fresh}
 use Rattle.receiver.specs.Call.{stateOf}
 use Rattle.receiver.specs.declared.State.{State}
 use Rattle.train.specs.declared.RecordHead.{RecordHead}
-use Rattle.av1rtp.specs.Words.{numberIn, wordsIn}
+use Rattle.av1rtp.specs.Words.{numberIn, wordsIn, Named}
 use Rattle.av1rtp.specs.Calls.{one, plannedWords, payloadsWords, fieldWords, recordWords, stateIn, stateWords}
 
 -- ---- answers
@@ -48,11 +48,6 @@ never-zero OutputTooShort = omega arith
 never-zero TrainVersion = omega arith
 never-zero TrainCut = omega arith
 never-zero RecordTooShort = omega arith
-
--- a refusal with a number of its own
-abbrev pub Named : {A : Type 0} → Answer A → Type 0
-Named (given a) = Unit {0}
-Named (refused n at) = 1 ≤ n
 
 -- where three words tell what was asked for apart, number and words tell the answers apart
 pub told-apart : {A : Type 0} (three : A → List ℕ) → ((a b : A) → three a ≡ three b → a ≡ b)

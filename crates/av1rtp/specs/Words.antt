@@ -1,5 +1,5 @@
 -- How an answer crosses to C and Rust: its number, and four words (W14, A3).
-use Prim.Native.Nat.{ℕ}
+use Prim.Native.Nat.{ℕ, _≤_}
 use mathlib.Core.List.{List, [], _∷_}
 use Rattle.base.specs.Answers.{Answer, given, refused}
 
@@ -12,3 +12,8 @@ numberIn (refused n at) = n
 abbrev pub wordsIn : {A : Type 0} → (A → List ℕ) → Answer A → List ℕ
 wordsIn three (given a) = 0 ∷ three a
 wordsIn three (refused n at) = at ∷ 0 ∷ 0 ∷ 0 ∷ []
+
+-- a refusal with a number of its own
+abbrev pub Named : {A : Type 0} → Answer A → Type 0
+Named (given a) = Unit {0}
+Named (refused n at) = 1 ≤ n

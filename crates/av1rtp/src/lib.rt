@@ -202,7 +202,8 @@ pub extern "C" fn av1rtp_train_record(bytes: &[u8], at: usize, answer: &mut [usi
     }
 }
 
-// The four bytes that stand before a payload: the stated length, which counts the number's two bytes, and the number.
+// The four bytes that stand before a payload: the stated length, which counts the number's two bytes, and the number. Any length is
+// written, 0 to 2 too, though no reader takes such a record (R23).
 #[no_mangle]
 pub extern "C" fn av1rtp_train_record_head(stated: u16, number: u16, head: &mut [u8; 4])
     ensures { λ _. ⌜ now (head .exit) ≡ headBytes lengthWidth stated number ⌝ }

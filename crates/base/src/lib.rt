@@ -68,6 +68,7 @@ pub fn number(refusal: Refusal) -> u32
 }
 
 // Stores five numbers of a flat list from place `at` on.
+// Helper: the list must have these five places.
 pub fn put_five(list: &mut [u32], at: usize, a: u32, b: u32, c: u32, d: u32, e: u32)
     requires { ⌜ at + 5 ≤ length (now list) ⌝ }
     ensures { λ _. ⌜ now (list .exit) ≡ sets (now (list .entry)) at (a ∷ b ∷ c ∷ d ∷ e ∷ []) ⌝ }
@@ -112,6 +113,7 @@ fn copy_block(from: &[u8], start: usize, n: usize, to: &mut [u8], at: usize)
 }
 
 // Copies the n bytes of `from` at `start` to the cursor `at` of `to`, block after block, and returns the cursor after them.
+// Helper: `from` must have the n bytes, and `to` the space for them.
 pub fn copy_bytes(from: &[u8], start: usize, n: usize, to: &mut [u8], at: usize) -> usize
     requires { ⌜ (start + n ≤ length (now from)) × (at + n ≤ length (now to)) ⌝ }
     ensures { λ r. ⌜ (r ≡ at + n) × (now (to .exit) ≡ sets (now (to .entry)) at (take n (drop start (now (from .entry))))) ⌝ }
@@ -126,6 +128,7 @@ pub fn copy_bytes(from: &[u8], start: usize, n: usize, to: &mut [u8], at: usize)
 }
 
 // A text at the cursor `at`, and the cursor after it.
+// Helper: `out` must have the space.
 pub fn put_text(text: &[u8], out: &mut [u8], at: usize) -> usize
     requires { ⌜ at + length (now text) ≤ length (now out) ⌝ }
     ensures { λ r. ⌜ Put (now (out .entry)) (now (out .exit)) at r (now (text .entry)) ⌝ }
@@ -182,6 +185,7 @@ fn put_line_of(text: &[u8], n: u32, out: &mut [u8], at: usize) -> usize
 }
 
 // The words of a refusal, by its number, at the cursor `at`, and the cursor after them; none for a number that no refusal has.
+// Helper: `out` must have space for 766 bytes, those of all words together.
 pub fn put_words(number: u32, out: &mut [u8], at: usize) -> usize
     requires { ⌜ at + wordsMost ≤ length (now out) ⌝ }
     ensures { λ r. ⌜ Put (now (out .entry)) (now (out .exit)) at r (wordsOf number) ⌝ }

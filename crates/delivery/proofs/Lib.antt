@@ -20,3 +20,4 @@ pub mod UnitsInstance
 pub mod Turns
 pub mod RoundTrip
 pub mod Trains
+pub mod Fused

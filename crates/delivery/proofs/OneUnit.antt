@@ -17,9 +17,9 @@ use Rattle.obu.specs.Wire.{wholeOf, handedOut, wire, wireOf}
 use Rattle.obu.specs.declared.Obu.{Obu}
 use Rattle.obu.proofs.Theorems.{wire-sent}
 use Rattle.packetizer.specs.Call.{mtuLimit, sizesOf, unitPlan, planAnswer}
+use Rattle.packetizer.specs.Laws.{position, Runs}
 use Rattle.packetizer.specs.declared.Planned.{Planned}
 use Rattle.packetizer.proofs.Laws.{plan-runs}
-use Rattle.packetizer.proofs.Runs.{position, Runs}
 use Rattle.packetizer.proofs.UnitLaws.{unit-positive}
 use Rattle.aggregation.specs.Header.{noObu}
 use Rattle.payloader.specs.Payload.{payloadsOf, joined}

@@ -16,8 +16,9 @@ use Rattle.base.proofs.Lists.{all-map, flatMap-append, flatMap-one, all-append,
 use Rattle.base.proofs.Tests.{by-cond}
 use Rattle.obu.specs.Unit.{obuNumbers, Placed, keptOf, obusOf}
 use Rattle.obu.specs.Wire.{wireOf}
+use Rattle.obu.specs.Laws.{Inside}
 use Rattle.obu.specs.declared.Obu.{Obu}
-use Rattle.obu.proofs.Theorems.{Inside, kept-inside, wire-small}
+use Rattle.obu.proofs.Theorems.{kept-inside, wire-small}
 use Rattle.packetizer.specs.Plan.{leastMtu, planNumbers}
 use Rattle.packetizer.specs.Call.{mtuLimit}
 use Rattle.payloader.specs.Payload.{payloadsOf}
@@ -30,7 +31,8 @@ use Rattle.packing.proofs.Units.{answer-is}
 use Rattle.packing.proofs.Runs.{numbered-append}
 use Rattle.train.specs.Bytes.{valueAfter, valueOf}
 use Rattle.train.specs.Train.{trainVersion, lengthWidth, Packet, Train, ended, trainOf as trainFile, trainIn, standing}
-use Rattle.train.proofs.Written.{AllFit, written-read}
+use Rattle.train.specs.Laws.{AllFit}
+use Rattle.train.proofs.Written.{written-read}
 use Rattle.receiver.specs.Joining.{fresh}
 use Rattle.receiver.specs.Call.{Taken, stateOf}
 use Rattle.receiver.proofs.Laws.{holding-fresh}

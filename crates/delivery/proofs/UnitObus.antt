@@ -14,10 +14,9 @@ use Rattle.base.proofs.Tests.{by-cond}
 use Rattle.obu.specs.Unit.{obusOf}
 use Rattle.packetizer.specs.Elements.{elementsFrom}
 use Rattle.packetizer.specs.Call.{sizesOf}
+use Rattle.packetizer.specs.Laws.{Position, position, endsAt, Sound, Runs, startOf, Positive}
 use Rattle.packetizer.specs.declared.PacketMetadata.{PacketMetadata}
-use Rattle.packetizer.proofs.Planning.{Positive}
-use Rattle.packetizer.proofs.Bodies.{startOf, start-zero, start-more, elements-count}
-use Rattle.packetizer.proofs.Runs.{Position, position, endsAt, Sound, Runs}
+use Rattle.packetizer.proofs.Bodies.{start-zero, start-more, elements-count}
 use Rattle.aggregation.specs.Header.{lastObu, lastStart}
 use Rattle.payloader.specs.Payload.{partOf, partsOf}
 use Rattle.payloader.proofs.Bodies.{size-at}

@@ -20,10 +20,9 @@ use Rattle.obu.specs.Unit.{obusOf}
 use Rattle.packetizer.specs.Plan.{leastMtu, mostCounted}
 use Rattle.packetizer.specs.Elements.{Element, elementsFrom, elementsOf, elementBytes, fieldBytes}
 use Rattle.packetizer.specs.Call.{mtuLimit, sizesOf}
+use Rattle.packetizer.specs.Laws.{Position, position, endsAt, Sound, Runs, startOf, Positive}
 use Rattle.packetizer.specs.declared.PacketMetadata.{PacketMetadata}
-use Rattle.packetizer.proofs.Planning.{Positive}
-use Rattle.packetizer.proofs.Bodies.{startOf, elements-count}
-use Rattle.packetizer.proofs.Runs.{Position, position, endsAt, Sound, Runs}
+use Rattle.packetizer.proofs.Bodies.{elements-count}
 use Rattle.aggregation.specs.Header as header
 use Rattle.aggregation.specs.Header.{noObu, lastObu, lastStart, nOf, byteOf}
 use Rattle.aggregation.proofs.Bits.{bit-z, bit-y, bits-w, bit-n}

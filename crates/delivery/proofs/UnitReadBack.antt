@@ -8,13 +8,13 @@ use borrow.Author.Tests.{le-ltb}
 use Rattle.base.specs.Answers.{refused}
 use Rattle.base.specs.Lists.{All}
 use Rattle.packetizer.specs.Call.{sizesOf, unitPlan}
+use Rattle.packetizer.specs.Laws.{position}
 use Rattle.packetizer.specs.declared.PacketMetadata.{PacketMetadata}
-use Rattle.packetizer.proofs.Runs.{position}
 use Rattle.packetizer.proofs.UnitLaws.{unit-positive}
 use Rattle.payloader.specs.Payload.{payloadsOf}
 use Rattle.element.specs.Elements as element
 use Rattle.element.specs.Elements.{payloadLimit, payloadElements}
-use Rattle.element.proofs.Carried as carried
+use Rattle.element.specs.Laws.{ReadsAs}
 use Rattle.lawful.specs.Train.{NonEmpty, Packet}
 use Rattle.lawful.specs.Payload.{Carry, CarryAll}
 use Rattle.lawful.proofs.Reading.{carried-read}
@@ -27,7 +27,7 @@ module _ (unit : List ℕ) where
   unfolding payloadElements
   one-back [] p c f = absurd c
   one-back (h ∷ bytes) p c f =
-      let r : carried.Carries (h ∷ bytes) (elementsAt unit p) = carried-read (h ∷ bytes) (packetFor unit p) c f in
+      let r : ReadsAs (h ∷ bytes) (elementsAt unit p) = carried-read (h ∷ bytes) (packetFor unit p) c f in
       record {
         parts = r .parts;
         read = ap (λ (t : Bool). cond t (refused 13 0) (element.elementsOf (h ∷ bytes))) (le-ltb payloadLimit (length (h ∷ bytes)) (c .short)) ∙ r .read;

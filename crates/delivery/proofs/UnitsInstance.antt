@@ -1,20 +1,20 @@
--- Units under loss, by computation: every premise of the theorem is met, and the calls compute to what it says; and two trains fused. Assumes nothing.
+-- Units under loss, by computation: every premise of the theorem is met, and the calls compute to what it says. Assumes nothing.
 use mathlib.Core.Path.{_≡_, refl, sym, ap, subst, _∙_}
 use Prim.Native.Nat.{ℕ}
 use native.Mathlib.Omega.{arith}
-use mathlib.Core.List.{List, [], _∷_, _++_, map, flatMap}
-use lib.ListN.{length, getD, replicate}
+use mathlib.Core.List.{List, [], _∷_, map, flatMap}
+use lib.ListN.{length, replicate}
 use Rattle.base.specs.Lists.{keep, All}
 use Rattle.leb128.specs.Field.{fieldIn, encodeIn}
 use Rattle.obu.specs.Front.{frontOf, headed}
-use Rattle.obu.specs.Unit.{scanFrom, listed, obusOf}
-use Rattle.obu.specs.Wire.{wholeOf, wire, wireOf}
+use Rattle.obu.specs.Unit.{scanFrom, listed}
+use Rattle.obu.specs.Wire.{wholeOf, wire}
 use Rattle.packetizer.specs.Fragment.{largestFragment}
 use Rattle.packetizer.specs.Plan.{chargeOf, isFull, needOf, fragmentOf, spread, insert, place, planFrom, planOf}
 use Rattle.packetizer.specs.Elements.{elementsFrom}
 use Rattle.packetizer.specs.Call.{planAnswer}
 use Rattle.aggregation.specs.Header.{nOf, byteOf}
-use Rattle.payloader.specs.Payload.{fielded, payload, payloadsFrom, payloadsOf}
+use Rattle.payloader.specs.Payload.{fielded, payload, payloadsFrom}
 use Rattle.payloader.specs.Call.{payloadAnswer}
 use Rattle.element.specs.Elements.{elementAt, untilEnd, exactly, counting, elementsOf, payloadElements}
 use Rattle.handing.specs.Handing.{wires}
@@ -30,7 +30,7 @@ sending : ℕ → List ℕ → Sending
 sending mtu unit = record { mtu = mtu; unit = unit; obus = replicate 20 7; plan = replicate 25 7; output = replicate 20 7 }
 
 -- U7's unit at mtu 3, one with no kept OBU, U9's at 20, U11's at 3
-sendings : List Sending
+pub sendings : List Sending
 sendings =
     sending 3 (0x12 ∷ 0 ∷ 0x0a ∷ 3 ∷ 0x11 ∷ 0x22 ∷ 0x33 ∷ 0x32 ∷ 5 ∷ 0xa1 ∷ 0xa2 ∷ 0xa3 ∷ 0xa4 ∷ 0xa5 ∷ [])
     ∷ sending 7 (0x12 ∷ 0 ∷ [])
@@ -59,14 +59,14 @@ unfolding sendings sending flatMap keep fieldIn encodeIn headed frontOf scanFrom
 accepted = ((omega arith, tt), ((omega arith, tt), ((omega arith, tt), ((omega arith, tt), tt))))
 
 -- the largest kept OBU has 6 bytes and the largest mtu is 20: a store of 6 bytes, outputs of 86, which hold something
-store : List ℕ
+pub store : List ℕ
 store = replicate 6 0xee
 
 arrival : ℕ → Arrival
 arrival k = record { packet = k; output = replicate 86 0xdd }
 
 -- packet 0 is lost, 1 comes first, 3 twice, 5 late; the first packet has the number 65,533
-arrivals : List Arrival
+pub arrivals : List Arrival
 arrivals = map arrival (1 ∷ 2 ∷ 3 ∷ 3 ∷ 4 ∷ 6 ∷ 5 ∷ 7 ∷ [])
 
 made : List (List ℕ) → List Call
@@ -94,7 +94,7 @@ near =
     subst (λ (ps : List (List ℕ)). Near (length ps) (packetsIn arrivals)) (sym payloads-are)
     (omega arith, (omega arith, omega arith, omega arith, (omega arith, omega arith, omega arith, (omega arith, omega arith, omega arith, (omega arith, omega arith, omega arith, (omega arith, omega arith, omega arith, (omega arith, omega arith, omega arith, (omega arith, omega arith, omega arith, tt))))))))
 
-met : UnitsDelivered sendings 65533 store arrivals
+pub met : UnitsDelivered sendings 65533 store arrivals
 unfolding sendings sending store arrival arrivals keep fieldIn headed frontOf scanFrom
 met =
     units-delivery sendings 65533 6 20 store arrivals accepted near
@@ -104,33 +104,3 @@ met =
       store-has = omega arith;
       outputs-have = (omega arith, (omega arith, (omega arith, (omega arith, (omega arith, (omega arith, (omega arith, (omega arith, tt))))))));
     })
-
--- ---- why trains are never joined: packet 41 of one and then packet 42 of another, under one receiver, give an OBU that is in neither
-
-one : List ℕ
-one = 0x32 ∷ 2 ∷ 0xa1 ∷ 0xa2 ∷ []
-
-other : List ℕ
-other = 0x32 ∷ 2 ∷ 0xb1 ∷ 0xb2 ∷ []
-
--- each packed alone at mtu 3, the first packet with the number 41
-fused : List (List ℕ)
-fused = getD (payloadsOf 3 one) 0 [] ∷ getD (payloadsOf 3 other) 1 [] ∷ []
-
-fused-are : fused ≡ (0x50 ∷ 0x30 ∷ 0xa1 ∷ []) ∷ (0x90 ∷ 0xb2 ∷ []) ∷ []
-unfolding fused one other flatMap keep fieldIn encodeIn headed frontOf scanFrom largestFragment chargeOf isFull needOf fragmentOf spread insert place planFrom planOf elementsFrom nOf byteOf fielded payload payloadsFrom
-fused-are = refl
-
-fused-out : handedOut (calls ((0x50 ∷ 0x30 ∷ 0xa1 ∷ []) ∷ (0x90 ∷ 0xb2 ∷ []) ∷ []) 41 (stateOf fresh) store (arrival 0 ∷ arrival 1 ∷ [])) ≡ 0x32 ∷ 2 ∷ 0xa1 ∷ 0xb2 ∷ []
-unfolding store arrival arrivals calls flatMap outcome taken payloadElements elementsOf counting untilEnd exactly elementAt fieldIn encodeIn isAhead isInStep joined finished left handed keptOpen next out wires wire wholeOf frontOf headed
-fused-out = refl
-
--- each work has one OBU, and what was handed out is neither
-works : map (wireOf one) (obusOf one) ++ map (wireOf other) (obusOf other) ≡ (0x32 ∷ 2 ∷ 0xa1 ∷ 0xa2 ∷ []) ∷ (0x32 ∷ 2 ∷ 0xb1 ∷ 0xb2 ∷ []) ∷ []
-unfolding one other keep fieldIn encodeIn headed frontOf scanFrom
-works = refl
-
-in-neither : All (λ (o : List ℕ). o ≡ 0x32 ∷ 2 ∷ 0xa1 ∷ 0xb2 ∷ [] → ⊥) (map (wireOf one) (obusOf one) ++ map (wireOf other) (obusOf other))
-in-neither =
-    subst (All (λ (o : List ℕ). o ≡ 0x32 ∷ 2 ∷ 0xa1 ∷ 0xb2 ∷ [] → ⊥)) (sym works)
-    ((λ e. omega (arith, ap (λ (l : List ℕ). getD l 3 0) e)), ((λ e. omega (arith, ap (λ (l : List ℕ). getD l 2 0) e)), tt))

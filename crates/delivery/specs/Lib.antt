@@ -5,3 +5,4 @@ pub mod Units
 pub mod ReadBack
 pub mod RoundTrip
 pub mod Trains
+pub mod Fused

@@ -13,10 +13,11 @@ use lib.Dec.{eqb}
 use borrow.Author.Tests.{ne-eqb}
 use Rattle.base.specs.Answers.{Answer, given, refused}
 use Rattle.leb128.specs.Field.{sized, sizeField, encode, form, longestField, largestValue}
-use Rattle.leb128.proofs.Reading.{cap}
+use Rattle.leb128.specs.Laws.{cap}
 use Rattle.leb128.proofs.Theorems.{read-back, padded-read, form-length}
 use Rattle.element.specs.Header.{zBit, wOf, nBit}
 use Rattle.element.specs.Elements.{bytesOf, counted, elementAt, first, followed, untilEnd, exactly, counting, elementsOf}
+use Rattle.element.specs.Laws.{ReadsAs}
 use Rattle.element.specs.declared.Part.{Part}
 use Rattle.element.proofs.Reading.{field-found, rest-found}
 use Rattle.element.proofs.Laws.{until-step}
@@ -140,11 +141,6 @@ module _ (payload : List ℕ) where
 
 -- ---- a payload carries these elements
 
-pub record Carries (payload : List ℕ) (elements : List (List ℕ)) : Type 0 where
-  pub parts : List Part
-  pub read : elementsOf payload ≡ given parts
-  pub holds : map (bytesOf payload) parts ≡ elements
-
 flat-some : (xs : List Framed) → AllState xs → 1 ≤ length xs → 1 ≤ length (flatMap framed xs)
 unfolding flatMap
 flat-some [] s n = absurd (omega arith)
@@ -164,7 +160,7 @@ module _ (h : ℕ) (bits : (eqb (zBit h) 1 && eqb (nBit h) 1) ≡ false) where
   by-w w l e = ap (λ (t : Bool). cond t (refused 15 0) (counting (wOf h) l)) bits ∙ ap (λ (n : ℕ). counting n l) e
 
   module _ (xs : List Framed) (s : AllState xs) where
-    pub carried-end : wOf h ≡ 0 → 1 ≤ length xs → Carries (h ∷ flatMap framed xs) (map (λ (x : Framed). x .bytes) xs)
+    pub carried-end : wOf h ≡ 0 → 1 ≤ length xs → ReadsAs (h ∷ flatMap framed xs) (map (λ (x : Framed). x .bytes) xs)
     carried-end w n =
         record {
           parts = partsAt 1 xs;
@@ -173,7 +169,7 @@ module _ (h : ℕ) (bits : (eqb (zBit h) 1 && eqb (nBit h) 1) ≡ false) where
         }
 
     pub carried-w : (last : List ℕ) → wOf h ≡ suc (length xs) → 1 ≤ length last
-        → Carries (h ∷ (flatMap framed xs ++ last)) (map (λ (x : Framed). x .bytes) xs ++ (last ∷ []))
+        → ReadsAs (h ∷ (flatMap framed xs ++ last)) (map (λ (x : Framed). x .bytes) xs ++ (last ∷ []))
     carried-w last w n =
         record {
           parts = partsTo 1 xs last;

@@ -19,15 +19,10 @@ use Rattle.leb128.specs.Field.{Field, sized, unreadable, sizeField}
 use Rattle.leb128.proofs.Reading.{Sized, size-within}
 use Rattle.element.specs.Header.{zBit, wOf, nBit}
 use Rattle.element.specs.Elements.{bytesOf, counted, remaining, elementAt, first, followed, untilEnd, exactly, counting, elementsOf, payloadElements, payloadLimit, isDue, hasField}
+use Rattle.element.specs.Laws.{Lies, elementsFrom}
 use Rattle.element.specs.declared.Part.{Part}
 
 -- ---- one element
-
-pub record Lies (at end : ℕ) (p : Part) : Type 0 where
-  pub after : at ≤ p .start
-  pub some : 1 ≤ p .length
-  pub ends : p .start + p .length ≡ p .next
-  pub within : p .next ≤ end
 
 abbrev pub Found : ℕ → ℕ → Answer Part → Type 0
 Found at end (given p) = Lies at end p
@@ -70,10 +65,6 @@ part-lies payload at field p h e =
     subst (λ (m : ℕ). Lies at m p) n (element-lies field at (drop at payload) p e)
 
 -- ---- the elements from a cursor on
-
--- from element n on, which begins at `at`
-abbrev pub elementsFrom : List ℕ → ℕ → ℕ → ℕ → Answer (List Part)
-elementsFrom payload w n at = cond (eqb w 0) (untilEnd (drop at payload) 0 at) (exactly (w - n) (drop at payload) at)
 
 -- the rest matters only where an element is found
 followed-same : (a : Answer Part) (f g : ℕ → Answer (List Part)) → ((p : Part) → a ≡ given p → f (p .next) ≡ g (p .next)) → followed a f ≡ followed a g

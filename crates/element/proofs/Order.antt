@@ -16,14 +16,11 @@ use Rattle.base.specs.Answers.{Answer, given, refused}
 use Rattle.base.proofs.Tests.{by-cond, split-on}
 use Rattle.element.specs.Header.{zBit, wOf, nBit}
 use Rattle.element.specs.Elements.{elementAt, first, followed, untilEnd, exactly, counting, elementsOf, payloadElements, payloadLimit, nowhere, chosen, elementOf}
+use Rattle.element.specs.Laws.{Lies, InOrder}
 use Rattle.element.specs.declared.Part.{Part}
-use Rattle.element.proofs.Laws.{Lies, Found, element-found}
+use Rattle.element.proofs.Laws.{Found, element-found}
 
 -- ---- in order, without overlap, within the payload
-
-abbrev pub InOrder : ℕ → ℕ → List Part → Type 0
-InOrder at end [] = Unit {0}
-InOrder at end (p ∷ ps) = Lies at end p × InOrder (p .next) end ps
 
 abbrev AllIn : ℕ → ℕ → Answer (List Part) → Type 0
 AllIn at end (given ps) = InOrder at end ps

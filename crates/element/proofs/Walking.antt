@@ -11,9 +11,10 @@ use borrow.Author.Tests.{ne-eqb}
 use Rattle.base.specs.Answers.{Answer, given, refused}
 use Rattle.element.specs.Elements.{elementAt, first, followed, counting, isDue, hasField, nowhere, chosen}
 use Rattle.element.specs.Paper.{walked}
+use Rattle.element.specs.Laws.{Lies, elementsFrom}
 use Rattle.element.specs.declared.Part.{Part}
 use Rattle.element.specs.declared.Walked.{Walked}
-use Rattle.element.proofs.Laws.{Lies, part-lies, elementsFrom, from-first, from-step, from-end}
+use Rattle.element.proofs.Laws.{part-lies, from-first, from-step, from-end}
 
 -- those found so far, and then the rest
 abbrev prefixed : List Part → Answer (List Part) → Answer (List Part)

@@ -68,7 +68,7 @@ pub fn header_n(header: u8) -> bool
 }
 
 // N and Z both set.
-pub fn new_with_continuation(header: u8) -> bool
+fn new_with_continuation(header: u8) -> bool
     ensures { λ r. ⌜ r ≡ (eqb (zBit header) 1 && eqb (nBit header) 1) ⌝ }
 {
     if header_z(header) {
@@ -78,7 +78,7 @@ pub fn new_with_continuation(header: u8) -> bool
 }
 
 // After n elements, with so many bytes left: whether a further one is due.
-pub fn is_due(w: usize, n: usize, left: usize) -> bool
+fn is_due(w: usize, n: usize, left: usize) -> bool
     ensures { λ r. ⌜ r ≡ isDue w n left ⌝ }
 {
     if w == 0 {
@@ -98,6 +98,7 @@ pub fn has_field(w: usize, n: usize) -> bool
 }
 
 // The element at a cursor, with a length field or, without one, all that is left.
+// Helper: the cursor must not be past the end of the payload.
 pub fn read_element(payload: &[u8], at: usize, field: bool) -> ElementRead
     requires { ⌜ at ≤ length (now payload) ⌝ }
     ensures { λ r. ⌜ paperRead r ≡ elementAt field at (drop at (now (payload .entry))) ⌝ }

@@ -16,8 +16,9 @@ use Rattle.base.specs.Answers.{Answer, given, refused}
 use Rattle.base.proofs.Tests.{split-on}
 use Rattle.element.specs.Header.{zBit, wOf, nBit}
 use Rattle.element.specs.Elements.{payloadLimit, elementAt, first, followed, counting, payloadElements, isDue, hasField, nowhere}
+use Rattle.element.specs.Laws.{Lies, elementsFrom}
 use Rattle.element.specs.declared.Part.{Part}
-use Rattle.element.proofs.Laws.{Lies, part-lies, elementsFrom, from-first, from-none, from-step, from-end, payload-empty, elements-head}
+use Rattle.element.proofs.Laws.{part-lies, from-first, from-none, from-step, from-end, payload-empty, elements-head}
 use Rattle.element.proofs.Order.{checked, count-w, count-end}
 use Rattle.handing.specs.Inside.{cursorOf}
 

@@ -16,8 +16,8 @@ use Rattle.obu.specs.Header.{typeOf, drops}
 use Rattle.obu.specs.Front.{Front, startOf, spanOf}
 use Rattle.obu.specs.Wire.{wholeOf, framed, wire}
 use Rattle.element.specs.Elements.{bytesOf, nowhere, payloadElements}
+use Rattle.element.specs.Laws.{Lies}
 use Rattle.element.specs.declared.Part.{Part}
-use Rattle.element.proofs.Laws.{Lies}
 use Rattle.handing.specs.Handing.{fragmentLimit, before, wires}
 use Rattle.handing.specs.Inside.{across, counted, RoomAt, putAt, putFirst, partsOf, cursorOf, led, between}
 use Rattle.handing.proofs.Wires.{before-assoc, before-none}

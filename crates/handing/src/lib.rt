@@ -36,6 +36,7 @@ pub enum HandedOut {
 }
 
 // Copies `size` bytes of one slice, from `start` on, into another, from `at` on.
+// Helper: `from` must have these bytes, and `to` the space for them.
 pub fn copy(to: &mut [u8], at: usize, from: &[u8], start: usize, size: usize)
     requires { ⌜ (at + size ≤ length (now to)) × (start + size ≤ length (now from)) ⌝ }
     ensures { λ _. ⌜ now (to .exit) ≡ replaced (now (to .entry)) at (take size (drop start (now (from .entry)))) ⌝ }
@@ -213,6 +214,8 @@ fn hand_out(
 }
 
 // How many bytes go out for them. Most packets of a long OBU finish none.
+// Helper: the payload must be one that is read whole, with `from` and `to` no more than its elements and the cursor where element `from`
+// begins; `joined` must be within the store and within L4.
 pub fn count_out(
     payload: &[u8],
     cursor: usize,
@@ -235,6 +238,7 @@ pub fn count_out(
 }
 
 // Writes them first into the output.
+// Helper: what `count_out` asks, that it gave no refusal, and that the output has the space.
 pub fn write_out(
     payload: &[u8],
     cursor: usize,

@@ -15,13 +15,13 @@ use lib.Dec.{eqb}
 use Rattle.base.specs.Lists.{All}
 use Rattle.base.proofs.Lists.{length-snoc}
 use Rattle.leb128.specs.Field.{form, largestValue}
-use Rattle.leb128.proofs.Reading.{cap}
+use Rattle.leb128.specs.Laws.{cap}
 use Rattle.element.specs.Header.{zBit, wOf, nBit}
 use Rattle.element.specs.Elements.{payloadLimit}
-use Rattle.element.proofs.Carried as carried
+use Rattle.element.specs.Laws.{ReadsAs}
 use Rattle.element.proofs.Carried.{Framed, framed, States, AllState, padded-states, carried-end, carried-w}
 use Rattle.lawful.specs.Train.{NonEmpty, Packet}
-use Rattle.lawful.specs.Payload.{Holds, Laid, bare, last, more, Counted, each, exact, Carries, Carry, CarryAll}
+use Rattle.lawful.specs.Payload.{Holds, Laid, bare, last, more, Counted, each, exact, Carry, CarryAll}
 
 -- ---- an element with its length in front
 
@@ -97,18 +97,18 @@ laid-exact (more {e = e} {bytes = bytes} n h r) f l =
 -- ---- a payload
 
 counted-read : (h : ℕ) {w : ℕ} {es : List (List ℕ)} {bytes : List ℕ} → eqb (zBit h) 1 && eqb (nBit h) 1 ≡ false → wOf h ≡ w → Counted w es bytes → All NonEmpty es → length bytes ≤ largestValue
-    → carried.Carries (h ∷ bytes) es
+    → ReadsAs (h ∷ bytes) es
 counted-read h b e (each {es} {bytes} l) f s =
     let x : Each es bytes = laid-each l f s in
-    subst (λ (q : List ℕ). carried.Carries (h ∷ q) es) (x .is)
-    (subst (carried.Carries (h ∷ flatMap framed (x .xs))) (x .holds) (carried-end h b (x .xs) (x .states) e (x .some)))
+    subst (λ (q : List ℕ). ReadsAs (h ∷ q) es) (x .is)
+    (subst (ReadsAs (h ∷ flatMap framed (x .xs))) (x .holds) (carried-end h b (x .xs) (x .states) e (x .some)))
 counted-read h b e (exact {es = es} {bytes = bytes} c l) f s =
     let x : Exact es bytes = laid-exact l f s in
     let n : suc (length (x .xs)) ≡ length es = omega (arith, length-map (x .xs) (λ (y : Framed). y .bytes), length-snoc (elementsIn (x .xs)) (x .end), ap length (x .holds)) in
-    subst (λ (q : List ℕ). carried.Carries (h ∷ q) es) (x .is)
-    (subst (carried.Carries (h ∷ (flatMap framed (x .xs) ++ x .end))) (x .holds) (carried-w h b (x .xs) (x .states) (x .end) (e ∙ sym c ∙ sym n) (x .some)))
+    subst (λ (q : List ℕ). ReadsAs (h ∷ q) es) (x .is)
+    (subst (ReadsAs (h ∷ (flatMap framed (x .xs) ++ x .end))) (x .holds) (carried-w h b (x .xs) (x .states) (x .end) (e ∙ sym c ∙ sym n) (x .some)))
 
-pub carried-read : (payload : List ℕ) (p : Packet) → Carry payload p → All NonEmpty (p .elements) → carried.Carries payload (p .elements)
+pub carried-read : (payload : List ℕ) (p : Packet) → Carry payload p → All NonEmpty (p .elements) → ReadsAs payload (p .elements)
 carried-read [] p c f = absurd c
 carried-read (h ∷ bytes) p c f = counted-read h (c .n-clear) refl (c .counted) f (omega (arith, c .short))
 

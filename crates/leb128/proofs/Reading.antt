@@ -1,6 +1,6 @@
 -- Laws of reading a size field: a step of it, the bounds of what is read, and what decides it. Assumes nothing.
 use mathlib.Core.Path.{_≡_, refl, sym, ap, subst, _∙_}
-use Prim.Native.Nat.{ℕ, zero, suc, _-_, _*_, _%_, _≤_, _<_}
+use Prim.Native.Nat.{ℕ, zero, suc, _-_, _%_, _≤_, _<_}
 use native.Mathlib.Numerals.{add-one, sub-one}
 use native.Mathlib.Omega.{arith}
 use mathlib.Core.List.{List, [], _∷_}
@@ -11,6 +11,7 @@ use borrow.Author.Tests.{lt-ltb, le-ltb, le-leb, lt-leb, leb-true}
 use Rattle.base.proofs.Lists.{part-from}
 use Rattle.base.proofs.Tests.{by-cond}
 use Rattle.leb128.specs.Field.{Field, sized, unreadable, more, fieldIn, capped, sizeField, longestField, largestValue}
+use Rattle.leb128.specs.Laws.{cap}
 
 -- ---- a step, by the tests that the code makes
 
@@ -39,11 +40,6 @@ field-after n l f h k b e =
     ap (more (getD l 0 0)) (e ∙ ap (fieldIn (n - 1)) (part-from l 1 (omega arith))) ∙ sym (field-more n l h k b)
 
 -- ---- the bounds of what is read
-
--- 128 to the n
-abbrev pub cap : ℕ → ℕ
-cap zero = 1
-cap (suc n) = 128 * cap n
 
 pub cap-pos : (n : ℕ) → 1 ≤ cap n
 cap-pos zero = omega arith

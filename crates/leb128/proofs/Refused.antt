@@ -8,13 +8,9 @@ use lib.ListN.{length, take}
 use lib.Seq.{take-all}
 use lib.Dec.{ltb, leb}
 use borrow.Author.Tests.{le-ltb, lt-leb, ltb-true, ltb-false, leb-true, leb-false}
-use Rattle.base.specs.Lists.{All}
 use Rattle.base.proofs.Tests.{split-on}
 use Rattle.leb128.specs.Field.{sized, unreadable, fieldIn, capped, sizeField, longestField, largestValue}
-
--- every byte has the top bit set
-abbrev pub Unending : List ℕ → Type 0
-Unending l = All (λ (b : ℕ). 128 ≤ b) l
+use Rattle.leb128.specs.Laws.{Unending}
 
 -- the three ways in which the bytes of a field may end
 data Ends (n : ℕ) (l : List ℕ) : Type 0 where

@@ -15,7 +15,8 @@ use lib.Dec.{ltb}
 use borrow.Author.Tests.{lt-ltb, le-ltb, le-leb, ltb-true, ltb-false}
 use Rattle.base.proofs.Tests.{split-on}
 use Rattle.leb128.specs.Field.{sized, fieldIn, capped, sizeField, form, encodeIn, encode, longestField, largestValue}
-use Rattle.leb128.proofs.Reading.{cap, cap-le, Sized, size-within, field-take}
+use Rattle.leb128.specs.Laws.{cap}
+use Rattle.leb128.proofs.Reading.{cap-le, Sized, size-within, field-take}
 use Rattle.leb128.proofs.Writing.{cap-step, encode-more, encode-last}
 
 -- ---- forms of any length

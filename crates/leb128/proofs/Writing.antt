@@ -12,7 +12,7 @@ use borrow.Author.Tests.{lt-ltb, le-ltb}
 use Rattle.base.specs.Lists.{replaced}
 use Rattle.base.proofs.Tests.{by-cond}
 use Rattle.leb128.specs.Field.{encodeIn, encode, largestValue}
-use Rattle.leb128.proofs.Reading.{cap}
+use Rattle.leb128.specs.Laws.{cap}
 
 -- ---- a step
 

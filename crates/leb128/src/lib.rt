@@ -99,6 +99,7 @@ pub fn leb128_size(value: u32) -> usize
 }
 
 // Writes the shortest form of `value` at the cursor `at`, and returns the cursor after it.
+// Helper: `out` must have the space.
 pub fn put_leb128(out: &mut [u8], at: usize, value: u32) -> usize
     requires { ⌜ at + length (encode value) ≤ length (now out) ⌝ }
     ensures { λ r. ⌜ (r ≡ at + length (encode value)) × (now (out .exit) ≡ replaced (now (out .entry)) at (encode value)) ⌝ }

@@ -248,6 +248,8 @@ fn failed_step(stood: Place, subject: Subject, word: Word, line: &mut [u8]) -> T
 }
 
 // The next turn, by what came of the one before: all that `planlist` decides.
+// Helper: every store must have exactly its length (L12, L13), no more bytes may have come than the input holds, the unit must be within
+// its store, and while lines are printed the lists must be those of the unit, as the step before left them.
 pub fn step(
     place: Place,
     came: Came,

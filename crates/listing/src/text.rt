@@ -14,6 +14,7 @@ ghost use Rattle.listing.specs.Listing.{twoNumbers};
 ghost use Rattle.listing.specs.Steps.{Printed};
 
 // The line of packet k.
+// Helper: the plan must have a whole record k, and the header call give a header for it.
 pub fn row_at(obus: &[u32], plan: &[u32], k: usize) -> Row
     requires { ⌜ (k + 1) * planNumbers ≤ length (now plan) ⌝ }
     requires { ⌜ headerOf (obusIn (now obus)) (packetsIn (now plan)) k ≡ given (byteOf (obusIn (now obus)) (getD (packetsIn (now plan)) k noPacket) k) ⌝ }
@@ -59,6 +60,7 @@ fn put_column(n: u64, out: &mut [u8], at: usize) -> usize
 }
 
 // The line of a packet at the front of the bytes lent, and how many it has.
+// Helper: `out` must have exactly LINE_BYTES bytes.
 pub fn put_row(row: Row, out: &mut [u8]) -> usize
     requires { ⌜ length (now out) ≡ lineBytes ⌝ }
     ensures { λ r. ⌜ Printed (rowText row) r (now (out .entry)) (now (out .exit)) ⌝ }
@@ -74,6 +76,7 @@ pub fn put_row(row: Row, out: &mut [u8]) -> usize
 }
 
 // Two numbers, each behind its few words, at the front of the bytes lent, and how many bytes they take.
+// Helper: `out` must have exactly LINE_BYTES bytes, and the words together at most 100.
 pub fn put_two(first: &[u8], m: u64, second: &[u8], n: u64, out: &mut [u8]) -> usize
     requires { ⌜ (length (now out) ≡ lineBytes) × (length (now first) + length (now second) ≤ 100) ⌝ }
     ensures { λ r. ⌜ Printed (twoNumbers (now (first .entry)) m (now (second .entry)) n) r (now (out .entry)) (now (out .exit)) ⌝ }

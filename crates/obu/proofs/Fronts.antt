@@ -4,18 +4,19 @@ use Prim.Native.Nat.{ℕ, suc, _+_, _-_, _≤_, _<_, min}
 use native.Mathlib.Omega.{arith}
 use mathlib.Core.List.{List, [], _∷_, _++_}
 use mathlib.Core.Bool.{Bool, true, false, cond}
-use mathlib.Core.Logic.{_⊎_, inl, inr}
+use mathlib.Core.Logic.{inl, inr}
 use lib.ListN.{length, getD, take, drop, replicate, length-append, length-replicate}
 use lib.Seq.{take-take, take-append-le, getD-take}
 use lib.Dec.{leb, eqb}
 use borrow.Author.Tests.{eq-eqb, ne-eqb, le-leb, lt-leb, eqb-true, eqb-false, leb-true, leb-false}
 use Rattle.base.proofs.Lists.{take-drop}
 use Rattle.base.proofs.Tests.{by-cond, split-on}
-use Rattle.leb128.specs.Field.{Field, sized, unreadable, sizeField, encode, longestField}
+use Rattle.leb128.specs.Field.{Field, sized, unreadable, sizeField, longestField}
 use Rattle.leb128.proofs.Reading.{Sized, size-within}
 use Rattle.leb128.proofs.Theorems.{none-shorter, first-eight}
 use Rattle.obu.specs.Header.{extensionBit, sizeBit, headerSize}
-use Rattle.obu.specs.Front.{headBytes, spanOf, Seen, found, stopped, sizedBy, headed, extended, frontOf}
+use Rattle.obu.specs.Front.{headBytes, found, stopped, sizedBy, headed, extended, frontOf}
+use Rattle.obu.specs.Laws.{Spans}
 
 -- ---- what is read lies in the first ten bytes
 
@@ -95,10 +96,6 @@ module _ (all : List ℕ) (h e n left : ℕ) (front : frontOf all ≡ headed h e
   front-bad s z m p = front-sized s z (unreadable m) p
 
 -- ---- what an OBU that was found spans: no more than there is; and its size field is no shorter than the shortest, or it is the last
-
-abbrev pub Spans : List ℕ → Seen → Type 0
-Spans l (found f) = (spanOf f ≤ length l) × ((length (encode (f .payload)) ≤ f .field) ⊎ (spanOf f ≡ length l))
-Spans l (stopped n) = Unit {0}
 
 spans-sized : (h e : ℕ) (l rest : List ℕ) (f : Field) → f ≡ sizeField rest → headerSize h + length rest ≡ length l → Spans l (sizedBy h e (length rest) f)
 spans-sized h e l rest (unreadable k) p q = tt

@@ -16,8 +16,9 @@ use Rattle.base.proofs.Tests.{split-on}
 use Rattle.obu.specs.Header.{typeOf, drops}
 use Rattle.obu.specs.Front.{Front, spanOf, Seen, found, stopped, frontOf}
 use Rattle.obu.specs.Unit.{unitLimit, obuNumbers, Placed, placed, Stop, ended, refusedBy, Scan, followed, scanFrom, scanOf, isKept, keptOf, obusOf, atStop, listed, numbersOf, flat}
+use Rattle.obu.specs.Laws.{Spans}
 use Rattle.obu.specs.declared.Obu.{Obu}
-use Rattle.obu.proofs.Fronts.{Spans, front-spans}
+use Rattle.obu.proofs.Fronts.{front-spans}
 
 -- ---- a step of the scan
 

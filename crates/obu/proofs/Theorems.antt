@@ -10,7 +10,7 @@ use native.Mathlib.Omega.{arith}
 use mathlib.Core.List.{List, [], _∷_, _++_, map, flatMap}
 use mathlib.Core.Bool.{Bool, true, false, cond}
 use mathlib.Core.Logic.{⊎-elim}
-use lib.ListN.{length, getD, drop, length-append, length-drop}
+use lib.ListN.{length, drop, length-append, length-drop}
 use lib.Seq.{length-take-le}
 use lib.Dec.{leb, eqb}
 use lib.Pow.{shr-shr}
@@ -25,15 +25,11 @@ use Rattle.obu.specs.Header.{typeOf, extensionBit, sizeBit, headerSize, 
 use Rattle.obu.specs.Front.{Front, spanOf, Seen, found, stopped, sizedBy, headed, extended, frontOf}
 use Rattle.obu.specs.Unit.{unitLimit, Placed, placed, Scan, followed, scanFrom, scanOf, isKept, keptOf, obusOf}
 use Rattle.obu.specs.Wire.{extensionBytes, payloadOf, sent, wholeOf, wire, wireOf}
+use Rattle.obu.specs.Laws.{Inside, Bytes, Small, Spans}
 use Rattle.obu.specs.declared.Obu.{Obu}
-use Rattle.obu.proofs.Fronts.{Spans, front-spans}
+use Rattle.obu.proofs.Fronts.{front-spans}
 
 -- ---- an OBU lies in its unit
-
-pub record Inside (total : ℕ) (p : Placed) : Type 0 where
-  pub start : p .obu .start ≡ p .at + (headerSize (p .obu .header) + p .field)
-  pub within : p .obu .start + p .obu .length ≤ total
-  pub size : p .obu .size ≡ headerSize (p .obu .header) + p .obu .length
 
 -- what holds of every OBU that is found, if it follows from something that holds of the bytes and of each tail of them
 module _ (P : Placed → Type 0) (Q : List ℕ → ℕ → Type 0) (tail : (b : ℕ) (l : List ℕ) (at : ℕ) → Q (b ∷ l) at → Q l (at + 1))
@@ -60,10 +56,6 @@ kept-inside unit =
     all-keep (Inside (length unit)) isKept (scanOf unit .obus)
     (scan-all (Inside (length unit)) (λ (l : List ℕ) (at : ℕ). at + length l ≡ length unit) (λ b l at q. omega arith) (inside-found (length unit)) unit 0 0 (omega arith))
 
--- header and extension byte are bytes of the unit, or 0
-abbrev pub Bytes : List ℕ → Type 0
-Bytes l = (i : ℕ) → getD l i 0 < 256
-
 abbrev SmallFront : Seen → Type 0
 SmallFront (found f) = (f .header < 256) × (f .extension < 256)
 SmallFront (stopped n) = Unit {0}
@@ -87,10 +79,6 @@ small-front (h ∷ l) q = by-cond SmallFront (eqb (extensionBit h) 1) (extended 
     second : (m : List ℕ) → Bytes (h ∷ m) → SmallFront (extended h m)
     second [] r = tt
     second (e ∷ m) r = small-headed h e m (r 0) (r 1)
-
-pub record Small (p : Placed) : Type 0 where
-  pub header : p .obu .header < 256
-  pub extension : p .obu .extension < 256
 
 small-found : (l : List ℕ) (at : ℕ) (f : Front) → Bytes l → found f ≡ frontOf l → Small (placed at f)
 small-found l at f q e =

@@ -3,3 +3,4 @@ pub mod Front
 pub mod Unit
 pub mod Wire
 pub mod Paper
+pub mod Laws

@@ -122,7 +122,7 @@ fn extension_byte(bytes: &[u8], header: u8) -> u8
 }
 
 // The OBU at the front of `total` bytes, the first of which are `bytes`: ten are enough.
-pub fn read_obu(bytes: &[u8], total: usize) -> ObuRead
+fn read_obu(bytes: &[u8], total: usize) -> ObuRead
     requires { ⌜ (1 ≤ total) × (min headBytes total ≤ length (now bytes)) × (length (now bytes) ≤ total) ⌝ }
     ensures { λ r. ⌜ ((all : List ℕ) → take headBytes all ≡ take headBytes (now (bytes .entry)) → length all ≡ total
         → paperRead r ≡ frontOf all) ⌝ }
@@ -174,6 +174,7 @@ fn span(head: Head) -> usize
 }
 
 // An OBU of exactly `total` bytes, the first of which are `bytes`.
+// Helper: `total` must be 1 or more, and `bytes` the first of them: ten at least, or all.
 pub fn whole_obu(bytes: &[u8], total: usize) -> ObuRead
     requires { ⌜ (1 ≤ total) × (min headBytes total ≤ length (now bytes)) × (length (now bytes) ≤ total) ⌝ }
     ensures { λ r. ⌜ ((all : List ℕ) → take headBytes all ≡ take headBytes (now (bytes .entry)) → length all ≡ total

@@ -13,12 +13,9 @@ use Rattle.base.proofs.Tests.{by-cond}
 use Rattle.packetizer.specs.Fragment.{fieldSize}
 use Rattle.packetizer.specs.Plan.{mostCounted, chargeOf}
 use Rattle.packetizer.specs.Elements.{Element, element, elementsFrom, elementsOf, elementBytes, fieldBytes, bodySize}
+use Rattle.packetizer.specs.Laws.{startOf}
 use Rattle.packetizer.specs.declared.PacketMetadata.{PacketMetadata}
 use Rattle.packetizer.proofs.Steps.{charge-none, charge-paid, charge-last}
-
--- where the last of so many elements starts
-abbrev pub startOf : ℕ → ℕ → ℕ
-startOf count o = cond (eqb count 1) o 0
 
 pub start-zero : (count : ℕ) → startOf count 0 ≡ 0
 start-zero count = by-cond (λ (x : ℕ). x ≡ 0) (eqb count 1) 0 0 (λ t. refl) (λ t. refl)

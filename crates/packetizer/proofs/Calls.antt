@@ -13,9 +13,10 @@ use Rattle.base.proofs.Lists.{front-sets}
 use Rattle.base.proofs.Tests.{by-cond}
 use Rattle.obu.specs.Unit.{unitLimit, obuNumbers, Placed, Stop, ended, refusedBy, followed, scanFrom, scanOf, isKept, keptOf, obusOf, atStop, listed, flat, listAnswer, listAfter}
 use Rattle.obu.specs.Front.{Seen, found, stopped, frontOf, spanOf}
+use Rattle.obu.specs.Laws.{Inside}
 use Rattle.obu.specs.declared.Obu.{Obu}
 use Rattle.obu.proofs.Scans.{flat-length}
-use Rattle.obu.proofs.Theorems.{Inside, kept-inside, inside-size}
+use Rattle.obu.proofs.Theorems.{kept-inside, inside-size}
 use Rattle.packetizer.specs.Plan.{planNumbers, flatPlan}
 use Rattle.packetizer.specs.Call.{mtuLimit, sizesOf, unitPlan, planned, planAnswer, obusAfter, planAfter}
 use Rattle.packetizer.specs.Paper.{recorded, sizesIn}

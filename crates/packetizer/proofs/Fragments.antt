@@ -10,7 +10,8 @@ use lib.Dec.{ltb}
 use borrow.Author.Tests.{ltb-true, ltb-false, leb-true, leb-false}
 use Rattle.base.proofs.Tests.{by-cond, split-on}
 use Rattle.leb128.specs.Field.{encodeIn}
-use Rattle.leb128.proofs.Reading.{cap, cap-pos, cap-le}
+use Rattle.leb128.specs.Laws.{cap}
+use Rattle.leb128.proofs.Reading.{cap-pos, cap-le}
 use Rattle.leb128.proofs.Writing.{encode-last, encode-more, encode-pos}
 use Rattle.packetizer.specs.Fragment.{fieldSize, fitsIn, largestFragment, Largest}
 

@@ -1,7 +1,7 @@
 -- What holds of every plan, for OBUs of at least one byte and an mtu from the smallest on (P13, P14). Assumes nothing.
 --     plan-follows   the records go from the start of OBU 0 to the end of the last OBU, each from where the one before ended
 --     plan-first, plan-next, plan-last   the same, record by record
---     plan-sound     each record is as Runs.Sound says: its count, its offsets, its packet size
+--     plan-sound     each record is as Sound says: its count, its offsets, its packet size
 --     plan-short     there are at most as many records as bytes
 --     plan-runs      all of that along the list
 use mathlib.Core.Path.{_≡_, refl, sym, ap}
@@ -15,10 +15,9 @@ use borrow.Author.Tests.{eqb-true, eqb-false}
 use Rattle.base.proofs.Tests.{by-cond, split-on}
 use Rattle.packetizer.specs.Plan.{leastMtu, newPacket, planOf}
 use Rattle.packetizer.specs.Elements.{totalSize}
+use Rattle.packetizer.specs.Laws.{Position, position, startsAt, endsAt, Sound, Runs, startOf, Positive}
 use Rattle.packetizer.specs.declared.PacketMetadata.{PacketMetadata}
-use Rattle.packetizer.proofs.Bodies.{startOf}
-use Rattle.packetizer.proofs.Runs.{Position, position, startsAt, endsAt, Sound, Runs}
-use Rattle.packetizer.proofs.Planning.{Positive, plan-none, plan-some, plan-begins}
+use Rattle.packetizer.proofs.Planning.{plan-none, plan-some, plan-begins}
 
 -- ---- the records follow one another, each is sound
 

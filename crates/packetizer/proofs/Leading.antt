@@ -12,12 +12,13 @@ use Rattle.base.proofs.Tests.{by-cond, split-on}
 use Rattle.packetizer.specs.Fragment.{fieldSize, largestFragment}
 use Rattle.packetizer.specs.Plan.{mostCounted, newPacket, leftIn, chargeOf, isFourth, isFull, charged, needOf, withElement, fragmentOf, alone, Placed, closing, spread, insert, place}
 use Rattle.packetizer.specs.Elements.{element, elementsFrom, elementsOf, elementBytes, fieldBytes, bodySize}
+use Rattle.packetizer.specs.Laws.{position, startsAt, endsAt, Sound, startOf}
 use Rattle.packetizer.specs.declared.PacketMetadata.{PacketMetadata}
 use Rattle.packetizer.proofs.Fragments.{field-one, field-mono, largest-is}
 use Rattle.packetizer.proofs.Steps.{charge-none, need-few, need-fourth, need-bounds, fragment-few, fragment-fourth}
 use Rattle.packetizer.proofs.Placing.{insert-whole, insert-cut, place-new, place-on, not-full, fragment-below, new-free}
-use Rattle.packetizer.proofs.Bodies.{startOf, start-more, elements-count, elements-more, charged-body, body-more}
-use Rattle.packetizer.proofs.Runs.{position, startsAt, endsAt, Sound, Ends, Leads, ends-at, ends-sound, alone-sound, alone-ends, alone-cut}
+use Rattle.packetizer.proofs.Bodies.{start-more, elements-count, elements-more, charged-body, body-more}
+use Rattle.packetizer.proofs.Runs.{Ends, Leads, ends-at, ends-sound, alone-sound, alone-ends, alone-cut}
 
 -- ---- the first fragment fits with its length field
 

@@ -12,6 +12,5 @@ pub mod Planning
 pub mod Laws
 pub mod Turns
 pub mod Calls
-pub mod SameAsCrate
 pub mod Pieces
 pub mod UnitLaws

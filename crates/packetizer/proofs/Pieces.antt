@@ -14,10 +14,9 @@ use Rattle.base.specs.Lists.{All}
 use Rattle.base.proofs.Tests.{by-cond, split-on}
 use Rattle.packetizer.specs.Plan.{leastMtu, newPacket, planOf}
 use Rattle.packetizer.specs.Elements.{Element, element, elementsFrom, elementsOf}
+use Rattle.packetizer.specs.Laws.{Position, position, startsAt, endOf, endsAt, Sound, Runs, startOf, Positive, EndsObu, partOf, joined}
 use Rattle.packetizer.specs.declared.PacketMetadata.{PacketMetadata}
-use Rattle.packetizer.proofs.Bodies.{startOf, start-zero, start-more, elements-step, elements-one, elements-count}
-use Rattle.packetizer.proofs.Runs.{Position, position, startsAt, endOf, endsAt, Sound, Runs}
-use Rattle.packetizer.proofs.Planning.{Positive}
+use Rattle.packetizer.proofs.Bodies.{start-zero, start-more, elements-step, elements-one, elements-count}
 use Rattle.packetizer.proofs.Laws.{plan-runs, plan-sound}
 
 -- ---- elements that go on where the one before ended
@@ -74,9 +73,6 @@ module _ (sizes : List ℕ) (some : Positive sizes) where
 
 -- ---- cut only where a packet ends: every element of a record but its last one runs to the end of its OBU
 
-abbrev pub EndsObu : List ℕ → Element → Type 0
-EndsObu sizes e = e .from + e .size ≡ getD sizes (e .obu) 0
-
 drop-last : (e : Element) (es : List Element) → 1 ≤ length es → dropLast (e ∷ es) ≡ e ∷ dropLast es
 drop-last e [] h = absurd (omega arith)
 drop-last e (f ∷ es) h = refl
@@ -98,13 +94,6 @@ plan-inner mtu sizes l some k h =
     inner-ends sizes some (p .«num_obu_elements») (p .«first_obu_index») (p .«first_obu_offset») (p .«last_obu_size») (s .inside) (omega (arith, s .from))
 
 -- ---- joined, they are the OBUs
-
--- the bytes of an element of these OBUs, and of all OBUs
-abbrev pub partOf : List (List ℕ) → Element → List ℕ
-partOf obus e = take (e .size) (drop (e .from) (getD obus (e .obu) []))
-
-abbrev pub joined : List (List ℕ) → List ℕ
-joined obus = flatMap (λ (o : List ℕ). o) obus
 
 -- the bytes from a position on
 abbrev rest : List (List ℕ) → Position → List ℕ

@@ -8,13 +8,10 @@ use lib.ListN.{length, getD, drop, drop-of-length-le}
 use lib.Seq.{drop-cons}
 use borrow.Author.Tests.{lt-ltb, le-ltb}
 use Rattle.packetizer.specs.Plan.{leastMtu, newPacket, place, planFrom, planOf}
+use Rattle.packetizer.specs.Laws.{position, startsAt, Runs, Positive}
 use Rattle.packetizer.specs.declared.PacketMetadata.{PacketMetadata}
-use Rattle.packetizer.proofs.Runs.{position, startsAt, Runs, Ends, runs-append, close-runs}
+use Rattle.packetizer.proofs.Runs.{Ends, runs-append, close-runs}
 use Rattle.packetizer.proofs.Leading.{place-first, place-leads}
-
--- every OBU has a byte
-abbrev pub Positive : List ℕ → Type 0
-Positive sizes = (j : ℕ) → j < length sizes → 1 ≤ getD sizes j 0
 
 module _ (room : ℕ) (sizes : List ℕ) (i : ℕ) (p : PacketMetadata) where
   pub plan-step : i < length sizes

@@ -10,7 +10,6 @@ use Rattle.obu.specs.Unit.{scanFrom, listed}
 use Rattle.packetizer.specs.Call.{planAnswer, obusAfter, planAfter}
 use Rattle.packetizer.specs.declared.Planned.{Planned}
 use Rattle.packetizer.specs.Fragment.{largestFragment}
-use Rattle.packetizer.specs.Crate.{popped, additionalBytes, fragmentFrom, maxFragmentSize, opened, firstFragment, fragmented, middles, lastFragment, step, packetizeFrom, packetize}
 use Rattle.packetizer.specs.Plan.{chargeOf, isFull, needOf, fragmentOf, spread, insert, place, planFrom, planOf, flatPlan}
 
 largest :
@@ -58,11 +57,6 @@ plans :
     ∷ []
 unfolding rows largestFragment chargeOf isFull needOf fragmentOf spread insert place planFrom planOf flatMap encodeIn
 plans = refl
-
--- the crate's own order gives the same
-same : map (λ (r : Row). packetize (r .mtu) (r .sizes)) rows ≡ map (λ (r : Row). planOf (r .mtu) (r .sizes)) rows
-unfolding rows largestFragment chargeOf isFull needOf fragmentOf spread insert place planFrom planOf encodeIn popped additionalBytes fragmentFrom maxFragmentSize opened firstFragment fragmented middles lastFragment step packetizeFrom packetize
-same = refl
 
 -- ---- the call: units, with two OBU records and two plan records lent
 

@@ -2,52 +2,14 @@
 use mathlib.Core.Path.{_≡_, refl, sym, subst}
 use Prim.Native.Nat.{ℕ, _+_, _-_, _≤_, _<_}
 use native.Mathlib.Omega.{arith}
-use mathlib.Core.Bool.{cond}
 use mathlib.Core.List.{List, [], _∷_, _++_}
 use lib.ListN.{length, getD}
-use lib.Dec.{ltb}
 use borrow.Author.Tests.{lt-ltb, le-ltb}
 use Rattle.packetizer.specs.Plan.{alone, Placed}
 use Rattle.packetizer.specs.Elements.{elementsOf, elementBytes, fieldBytes, bodySize}
+use Rattle.packetizer.specs.Laws.{Position, position, startsAt, endsAt, Sound, Runs, startOf}
 use Rattle.packetizer.specs.declared.PacketMetadata.{PacketMetadata}
-use Rattle.packetizer.proofs.Bodies.{startOf, elements-one}
-
--- an offset in an OBU
-pub record Position : Type 0 where
-  pub obu : ℕ
-  pub offset : ℕ
-
-abbrev pub position : ℕ → ℕ → Position
-position i o = record { obu = i; offset = o }
-
--- where a packet starts; and where it ends: in the OBU of its last element, or, if that ends too, at the next one's start
-abbrev pub startsAt : PacketMetadata → Position
-startsAt p = position (p .«first_obu_index») (p .«first_obu_offset»)
-
-abbrev pub endOf : List ℕ → ℕ → ℕ → Position
-endOf sizes next e = cond (ltb e (getD sizes (next - 1) 0)) (position (next - 1) e) (position next 0)
-
-abbrev pub endsAt : List ℕ → PacketMetadata → Position
-endsAt sizes p =
-    endOf sizes (p .«first_obu_index» + p .«num_obu_elements») (startOf (p .«num_obu_elements») (p .«first_obu_offset») + p .«last_obu_size»)
-
--- a record of a plan
-pub record Sound (room : ℕ) (sizes : List ℕ) (p : PacketMetadata) : Type 0 where
-  pub some : 1 ≤ p .«num_obu_elements»
-  pub inside : p .«first_obu_index» + p .«num_obu_elements» ≤ length sizes
-  pub from : p .«first_obu_offset» < getD sizes (p .«first_obu_index») 0
-  pub last : 1 ≤ p .«last_obu_size»
-  pub within :
-      startOf (p .«num_obu_elements») (p .«first_obu_offset») + p .«last_obu_size»
-      ≤ getD sizes (p .«first_obu_index» + p .«num_obu_elements» - 1) 0
-  pub paid : p .«packet_size» ≡ bodySize (elementsOf sizes p)
-  pub least : 1 ≤ p .«packet_size»
-  pub most : p .«packet_size» ≤ room
-
--- records from one position to another
-abbrev pub Runs : ℕ → List ℕ → Position → List PacketMetadata → Position → Type 0
-Runs room sizes a [] b = a ≡ b
-Runs room sizes a (p ∷ ps) b = (startsAt p ≡ a) × Sound room sizes p × Runs room sizes (endsAt sizes p) ps b
+use Rattle.packetizer.proofs.Bodies.{elements-one}
 
 -- a current packet that ends with the OBU before i
 pub record Ends (room : ℕ) (sizes : List ℕ) (i : ℕ) (p : PacketMetadata) : Type 0 where

@@ -11,11 +11,12 @@ use Rattle.obu.specs.Unit.{unitLimit, obuNumbers}
 use Rattle.packetizer.specs.Plan.{leastMtu, newPacket, place, planFrom, planOf}
 use Rattle.packetizer.specs.Elements.{totalSize}
 use Rattle.packetizer.specs.Paper.{recorded, sizesIn}
+use Rattle.packetizer.specs.Laws.{Positive}
 use Rattle.packetizer.specs.declared.PacketMetadata.{PacketMetadata}
 use Rattle.packetizer.proofs.Stores.{recorded-none, recorded-append}
 use Rattle.packetizer.proofs.Runs.{Ends}
 use Rattle.packetizer.proofs.Leading.{place-first, place-leads}
-use Rattle.packetizer.proofs.Planning.{Positive, plan-step, plan-end}
+use Rattle.packetizer.proofs.Planning.{plan-step, plan-end}
 use Rattle.packetizer.proofs.Laws.{plan-short}
 
 -- ---- the sizes in a flat list

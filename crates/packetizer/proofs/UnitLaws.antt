@@ -1,25 +1,22 @@
 -- The laws of a plan for the kept OBUs of a unit. Assumes nothing.
 --     unit-positive   every kept OBU has a byte: so Laws and Pieces hold of every unit's plan
 --     unit-joined     the elements, in order, joined, are what is sent of the kept OBUs (P13)
---     unit-crate      the plan is the crate's (D2)
 use mathlib.Core.Path.{_≡_, refl, sym, ap₂, subst}
 use Prim.Native.Nat.{ℕ, zero, suc, _≤_}
 use native.Mathlib.Omega.{arith}
 use mathlib.Core.List.{List, [], _∷_, map, flatMap}
 use lib.ListN.{length}
 use Rattle.base.specs.Lists.{All}
-use Rattle.obu.specs.Unit.{unitLimit, Placed, keptOf, obusOf}
+use Rattle.obu.specs.Unit.{Placed, keptOf}
 use Rattle.obu.specs.Wire.{sent}
+use Rattle.obu.specs.Laws.{Inside}
 use Rattle.obu.specs.declared.Obu.{Obu}
-use Rattle.obu.proofs.Theorems.{Inside, kept-inside, inside-size, sent-length}
+use Rattle.obu.proofs.Theorems.{kept-inside, inside-size, sent-length}
 use Rattle.packetizer.specs.Plan.{leastMtu}
 use Rattle.packetizer.specs.Elements.{elementsOf}
-use Rattle.packetizer.specs.Call.{mtuLimit, sizesOf, unitPlan}
-use Rattle.packetizer.specs.Crate.{packetize}
-use Rattle.packetizer.proofs.Planning.{Positive}
-use Rattle.packetizer.proofs.Pieces.{partOf, joined, plan-joined}
-use Rattle.packetizer.proofs.SameAsCrate.{crate-same}
-use Rattle.packetizer.proofs.Calls.{unit-small}
+use Rattle.packetizer.specs.Call.{sizesOf, unitPlan}
+use Rattle.packetizer.specs.Laws.{Positive, partOf, joined, sentOf}
+use Rattle.packetizer.proofs.Pieces.{plan-joined}
 
 -- ---- the sizes of a unit's kept OBUs
 
@@ -36,9 +33,6 @@ unit-positive unit = positive-from (length unit) (keptOf unit) (kept-inside unit
 
 -- ---- what is sent of them
 
-abbrev pub sentOf : List ℕ → List (List ℕ)
-sentOf unit = map (sent unit) (obusOf unit)
-
 lengths-from : (unit : List ℕ) (ps : List Placed) → All (Inside (length unit)) ps
     → map (λ (o : List ℕ). length o) (map (sent unit) (map (λ (p : Placed). p .obu) ps)) ≡ sizesFrom ps
 lengths-from unit [] h = refl
@@ -52,9 +46,3 @@ pub unit-joined : (mtu : ℕ) (unit : List ℕ) → leastMtu ≤ mtu
 unit-joined mtu unit l =
     let e = sent-lengths unit in
     rw e at (plan-joined (sentOf unit) mtu l (subst Positive (sym e) (unit-positive unit)))
-
--- ---- the crate's plan of a unit
-
-pub unit-crate : (mtu : ℕ) (unit : List ℕ) → mtu ≤ mtuLimit → length unit ≤ unitLimit → packetize mtu (sizesOf unit) ≡ unitPlan mtu unit
-unit-crate mtu unit m u =
-    crate-same mtu (sizesOf unit) (omega arith) (λ j l. let s = unit-small unit u j l in omega arith)

@@ -3,4 +3,4 @@ pub mod Plan
 pub mod Elements
 pub mod Call
 pub mod Paper
-pub mod Crate
+pub mod Laws

@@ -47,6 +47,7 @@ pub fn additional_bytes_for_previous_obu_element(p: PacketMetadata) -> u32
 }
 
 // Whether a further element starts a new packet.
+// Helper: the packet size must be within the room.
 pub fn is_full(room: u32, p: PacketMetadata) -> bool
     requires { ⌜ p .«packet_size» ≤ room ⌝ }
     ensures { λ r. ⌜ r ≡ isFull room p ⌝ }
@@ -60,6 +61,7 @@ pub fn is_full(room: u32, p: PacketMetadata) -> bool
 }
 
 // The packet with the charge for a further element.
+// Helper: the packet size must be at most 1,048,576.
 pub fn charge(p: PacketMetadata) -> PacketMetadata
     requires { ⌜ p .«packet_size» ≤ unitLimit ⌝ }
     ensures { λ r. ⌜ r ≡ charged p ⌝ }
@@ -74,6 +76,7 @@ pub fn charge(p: PacketMetadata) -> PacketMetadata
 }
 
 // What an element of n bytes needs: its length field too, from the fourth on.
+// Helper: n must be at most 1,048,576.
 pub fn required_bytes(p: PacketMetadata, n: u32) -> u32
     requires { ⌜ n ≤ unitLimit ⌝ }
     ensures { λ r. ⌜ r ≡ needOf p n ⌝ }
@@ -85,6 +88,7 @@ pub fn required_bytes(p: PacketMetadata, n: u32) -> u32
 }
 
 // The packet with an element of n bytes put in.
+// Helper: n and how many elements there are must be at most 1,048,576, the packet size at most 5 more.
 pub fn with_element(p: PacketMetadata, n: u32) -> PacketMetadata
     requires { ⌜ (n ≤ unitLimit) × (p .«packet_size» ≤ unitLimit + 5) × (p .«num_obu_elements» ≤ unitLimit) ⌝ }
     ensures { λ r. ⌜ r ≡ withElement p n ⌝ }
@@ -119,6 +123,7 @@ fn smaller(a: u32, b: u32) -> u32
 }
 
 // The first fragment of an OBU of `size` bytes.
+// Helper: the packet size must be within the room, and the OBU have a byte.
 pub fn first_fragment_size(room: u32, p: PacketMetadata, size: u32) -> u32
     requires { ⌜ (p .«packet_size» ≤ room) × (1 ≤ size) ⌝ }
     ensures { λ r. ⌜ r ≡ fragmentOf room p size ⌝ }
@@ -131,6 +136,7 @@ pub fn first_fragment_size(room: u32, p: PacketMetadata, size: u32) -> u32
 }
 
 // The packet with the first fragment in it; with none, as it was before the charge.
+// Helper: of n and `q` the same as `with_element`.
 pub fn cut_at(p: PacketMetadata, q: PacketMetadata, n: u32) -> PacketMetadata
     requires { ⌜ (n ≤ unitLimit) × (q .«packet_size» ≤ unitLimit + 5) × (q .«num_obu_elements» ≤ unitLimit) ⌝ }
     ensures { λ r. ⌜ r ≡ cutAt p q n ⌝ }

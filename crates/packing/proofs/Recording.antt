@@ -11,12 +11,12 @@ use Rattle.base.specs.Lists.{front, replaced, Put}
 use Rattle.base.proofs.Lists.{sets-append, take-drop, put-front}
 use Rattle.leb128.specs.Field.{encode}
 use Rattle.obu.specs.Unit.{obusOf}
+use Rattle.obu.specs.Laws.{Bytes}
 use Rattle.obu.specs.declared.Obu.{Obu}
-use Rattle.obu.proofs.Theorems.{Bytes}
 use Rattle.packetizer.specs.Plan.{planNumbers}
 use Rattle.packetizer.specs.Call.{mtuLimit, sizesOf, unitPlan}
+use Rattle.packetizer.specs.Laws.{Sound}
 use Rattle.packetizer.specs.declared.PacketMetadata.{PacketMetadata}
-use Rattle.packetizer.proofs.Runs.{Sound}
 use Rattle.aggregation.specs.Header.{noPacket}
 use Rattle.aggregation.specs.Flat.{packetsIn}
 use Rattle.payloader.specs.Payload.{payload, payloadsFrom, payloadsOf, joined}

@@ -272,6 +272,8 @@ fn written_subject(wait: Wait, k: u64) -> Subject
 }
 
 // The next turn, by what came of the one before: all that `pack` decides.
+// Helper: every store must have exactly its length (L12 to L14), no more bytes may have come than the input holds, a unit that is waited
+// for must fit, and while its packets are written it must stand first in the input, its plan and payloads as the step before left them.
 pub fn step(
     place: Place,
     came: Came,

@@ -32,6 +32,7 @@ pub enum UnitAnswer {
 }
 
 // How many bytes payload k has.
+// Helper: the plan must have a whole record k.
 pub fn payload_size(plan: &[u32], k: usize) -> usize
     requires { ⌜ (k + 1) * planNumbers ≤ length (now plan) ⌝ }
     ensures { λ r. ⌜ r ≡ getD (packetsIn (now (plan .entry))) k noPacket .«packet_size» + 1 ⌝ }
@@ -41,6 +42,7 @@ pub fn payload_size(plan: &[u32], k: usize) -> usize
 }
 
 // Writes one record, with a payload that stands at `from`, at the cursor `at`, and returns the cursor after it.
+// Helper: the payload must be there and have at most 65,533 bytes, and `records` space for four more than it has.
 pub fn put_record(
     payloads: &[u8],
     from: usize,
@@ -58,6 +60,7 @@ pub fn put_record(
 }
 
 // Plan and payloads of a unit of so many bytes, which stands at the front of the bytes given, or what there is of it.
+// Helper: the stated length must be at most that of the unit store.
 pub fn pack_unit(
     mtu: usize,
     stated: usize,

@@ -7,11 +7,11 @@ use mathlib.Core.List.{List, [], _∷_}
 use lib.ListN.{length, getD}
 use Rattle.leb128.specs.Field.{encode}
 use Rattle.obu.specs.Unit.{unitLimit, obusOf}
+use Rattle.obu.specs.Laws.{Bytes}
 use Rattle.obu.specs.declared.Obu.{Obu}
-use Rattle.obu.proofs.Theorems.{Bytes}
 use Rattle.packetizer.specs.Call.{sizesOf, unitPlan}
+use Rattle.packetizer.specs.Laws.{Sound}
 use Rattle.packetizer.specs.declared.PacketMetadata.{PacketMetadata}
-use Rattle.packetizer.proofs.Runs.{Sound}
 use Rattle.aggregation.specs.Header.{noPacket}
 use Rattle.payloader.specs.Payload.{payload, payloadsFrom, payloadsOf}
 use Rattle.payloader.proofs.Packets.{mtu-least, packet-sound}
@@ -33,6 +33,10 @@ module _ (write : ℕ → List ℕ) (unit : List ℕ) (obus : List Obu) where
   payloads-at k (suc j) (p ∷ ps) h =
       payloads-at (k + 1) j ps (omega arith) ∙ ap (λ (i : ℕ). payload write unit obus i (getD ps j noPacket)) (omega arith)
 
+pub payload-at : (mtu : ℕ) (unit : List ℕ) (k : ℕ) → k < length (unitPlan mtu unit)
+    → getD (payloadsOf mtu unit) k [] ≡ payload encode unit (obusOf unit) k (getD (unitPlan mtu unit) k noPacket)
+payload-at mtu unit k there = rw (zero-add k) at (payloads-at encode unit (obusOf unit) 0 k (unitPlan mtu unit) there)
+
 -- ---- P13
 
 module _ (mtu : ℕ) (unit : List ℕ) (small : length unit ≤ unitLimit) (bytes : Bytes unit) (k : ℕ) (there : k < length (payloadsOf mtu unit)) where
@@ -41,7 +45,7 @@ module _ (mtu : ℕ) (unit : List ℕ) (small : length unit ≤ unitLimit) (byte
 
   -- a byte more than the packet size of its record
   pub payload-size : length (getD (payloadsOf mtu unit) k []) ≡ getD (unitPlan mtu unit) k noPacket .«packet_size» + 1
-  payload-size = rw (zero-add k) at (ap length (payloads-at encode unit (obusOf unit) 0 k (unitPlan mtu unit) planned)) ∙ payload-length mtu unit small bytes k planned
+  payload-size = ap length (payload-at mtu unit k planned) ∙ payload-length mtu unit small bytes k planned
 
   -- 2 bytes at least, and at most as many as the mtu
   pub payload-fits : (2 ≤ length (getD (payloadsOf mtu unit) k [])) × (length (getD (payloadsOf mtu unit) k []) ≤ mtu)

@@ -1,5 +1,3 @@
 -- The laws of the payloads.
 pub mod Rows
-pub mod Writers
-pub mod Parting
 pub mod Lengths

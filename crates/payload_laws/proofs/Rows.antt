@@ -22,19 +22,19 @@ byAnswer : List (List ℕ) → Answer Payloads → Answer (List (List ℕ))
 byAnswer payloads (given p) = given payloads
 byAnswer payloads (refused n at) = refused n at
 
-record Row : Type 0 where
+pub record Row : Type 0 where
   mtu : ℕ
   unit : List ℕ
-  result : Answer (List (List ℕ))
+  pub result : Answer (List (List ℕ))
 
 row : ℕ → List ℕ → Answer (List (List ℕ)) → Row
 row mtu unit result = record { mtu = mtu; unit = unit; result = result }
 
-answered : Row → Answer (List (List ℕ))
+pub answered : Row → Answer (List (List ℕ))
 answered r = byAnswer (payloadsOf (r .mtu) (r .unit)) (payloadAnswer (r .mtu) (r .unit) (replicate 40 0) (replicate 40 0) (replicate 40 0))
 
 -- U1 to U6, U8 to U10, U12 to U16
-rows : List Row
+pub rows : List Row
 rows =
     row 1200 [] (given [])
     ∷ row 2 (0x0a ∷ 1 ∷ 0x7f ∷ []) (given [])
@@ -52,6 +52,6 @@ rows =
     ∷ row 20 (0x32 ∷ 0x80 ∷ 0x80 ∷ 0x80 ∷ 0x80 ∷ 0x10 ∷ []) (refused 6 0)
     ∷ []
 
-table : map answered rows ≡ map (λ (r : Row). r .result) rows
+pub table : map answered rows ≡ map (λ (r : Row). r .result) rows
 unfolding answered byAnswer row rows payloadAnswer planAnswer listed scanFrom frontOf headed fieldIn keep encodeIn planOf planFrom place insert spread fragmentOf needOf isFull chargeOf largestFragment elementsFrom nOf byteOf fielded payload payloadsFrom flatMap
 table = refl

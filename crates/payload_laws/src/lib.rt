@@ -1,1 +1,1 @@
-// Laws of the payloads. There is no code here: specs/ has the crate's writer of lengths, proofs/ the theorems.
+// Laws of the payloads. There is no code here: proofs/ has the theorems.

@@ -16,8 +16,8 @@ use Rattle.obu.specs.Unit.{unitLimit, obusOf, flat}
 use Rattle.obu.specs.declared.Obu.{Obu}
 use Rattle.packetizer.specs.Plan.{leastMtu, mostCounted, flatPlan}
 use Rattle.packetizer.specs.Call.{sizesOf, unitPlan}
+use Rattle.packetizer.specs.Laws.{Sound}
 use Rattle.packetizer.specs.declared.PacketMetadata.{PacketMetadata}
-use Rattle.packetizer.proofs.Runs.{Sound}
 use Rattle.packetizer.proofs.Planning.{plan-low}
 use Rattle.packetizer.proofs.Laws.{plan-sound}
 use Rattle.packetizer.proofs.Calls.{unit-small}

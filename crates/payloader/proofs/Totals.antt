@@ -14,15 +14,15 @@ use Rattle.base.proofs.Lists.{sets-append}
 use Rattle.base.proofs.Tests.{by-cond}
 use Rattle.leb128.specs.Field.{encode}
 use Rattle.obu.specs.Unit.{unitLimit, obusOf}
+use Rattle.obu.specs.Laws.{Bytes}
 use Rattle.obu.specs.declared.Obu.{Obu}
-use Rattle.obu.proofs.Theorems.{Bytes}
 use Rattle.packetizer.specs.Fragment.{fieldSize}
 use Rattle.packetizer.specs.Plan.{mostCounted}
 use Rattle.packetizer.specs.Elements.{elementsFrom, elementsOf, elementBytes, fieldBytes}
 use Rattle.packetizer.specs.Call.{sizesOf, unitPlan}
+use Rattle.packetizer.specs.Laws.{Sound}
 use Rattle.packetizer.specs.declared.PacketMetadata.{PacketMetadata}
 use Rattle.packetizer.proofs.Bodies.{elements-count}
-use Rattle.packetizer.proofs.Runs.{Sound}
 use Rattle.aggregation.specs.Header.{noObu, noPacket}
 use Rattle.payloader.specs.Payload.{payload, payloadsFrom, plannedBytes, payloadsOf, joined}
 use Rattle.payloader.proofs.Units.{Lies, obu-lies}

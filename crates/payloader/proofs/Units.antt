@@ -7,8 +7,9 @@ use lib.ListN.{length, getD, length-map}
 use Rattle.base.specs.Lists.{All}
 use Rattle.obu.specs.Header.{headerSize}
 use Rattle.obu.specs.Unit.{Placed, keptOf, obusOf, flat}
+use Rattle.obu.specs.Laws.{Inside, Bytes, Small}
 use Rattle.obu.specs.declared.Obu.{Obu}
-use Rattle.obu.proofs.Theorems.{Inside, kept-inside, Bytes, Small, kept-small}
+use Rattle.obu.proofs.Theorems.{kept-inside, kept-small}
 use Rattle.packetizer.specs.Plan.{flatPlan}
 use Rattle.packetizer.specs.declared.PacketMetadata.{PacketMetadata}
 use Rattle.aggregation.specs.Header.{noObu}

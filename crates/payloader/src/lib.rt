@@ -119,6 +119,7 @@ fn put_element(
 }
 
 // The aggregation header of packet k.
+// Helper: the header call must give a header for packet k, and no refusal.
 pub fn header_byte(obus: &[u32], plan: &[u32], k: usize) -> u8
     requires { ⌜ headerOf (obusIn (now obus)) (packetsIn (now plan)) k ≡ given (byteOf (obusIn (now obus)) (getD (packetsIn (now plan)) k noPacket) k) ⌝ }
     ensures { λ r. ⌜ r ≡ byteOf (obusIn (now (obus .entry))) (getD (packetsIn (now (plan .entry))) k noPacket) k ⌝ }
@@ -139,7 +140,7 @@ fn size_at(obus: &[u32], i: usize) -> usize
 }
 
 // Writes packet k of a unit's plan at the cursor `at`, and returns the cursor after it.
-pub fn write_packet(
+fn write_packet(
     mtu: usize,
     unit: &[u8],
     obus: &[u32],

@@ -1,14 +1,16 @@
 -- 14 is given to a packet that is not ahead and to no other (R14). Assumes nothing.
---     never-behind    a packet that is ahead is not refused by 14
+--     fourteen-when    a packet that is not ahead gets 14, where neither 12 nor 13 comes before it
+--     fourteen-only    and no other does
 use mathlib.Core.Path.{_≡_, refl, subst}
-use Prim.Native.Nat.{ℕ, zero, suc, _+_, _-_}
+use Prim.Native.Nat.{ℕ, zero, suc, _+_, _-_, _≤_}
 use native.Mathlib.Omega.{arith}
 use mathlib.Core.List.{List, [], _∷_}
 use mathlib.Core.Bool.{Bool, true, false, not, _&&_, _||_}
 use lib.ListN.{length, drop}
 use lib.Dec.{eqb, ltb}
+use borrow.Author.Tests.{le-ltb, ne-eqb}
 use Rattle.base.specs.Answers.{Answer, given, refused}
-use Rattle.base.proofs.Tests.{by-cond}
+use Rattle.base.proofs.Tests.{by-cond, split-on}
 use Rattle.leb128.specs.Field.{Field, sized, unreadable, sizeField}
 use Rattle.obu.specs.Front.{Front, Seen, found, stopped, frontOf, spanOf}
 use Rattle.obu.specs.Wire.{wholeOf, handedOut, wire}
@@ -19,7 +21,8 @@ use Rattle.element.specs.declared.Part.{Part}
 use Rattle.handing.specs.Handing.{fragmentLimit, before, wires}
 use Rattle.receiver.specs.Packet.{Packet, packetBy, packetOf}
 use Rattle.receiver.specs.Joining.{Held, Lost, ahead, lost, next, out}
-use Rattle.receiver.specs.Call.{fitted, opened, taken}
+use Rattle.receiver.specs.Call.{Taken, fitted, opened, taken, heldIn, outcome, answered, receiveAnswer}
+use Rattle.receiver.specs.declared.State.{State}
 
 -- it is not 14
 abbrev Other : {A : Type 0} → Answer A → Type 0
@@ -127,5 +130,24 @@ taken-other space room h number payload t =
     (λ u. λ e. omega arith)
     (λ u. opened-other space room h number (packetOf payload) (packet-other payload (payloadElements payload) (payload-other payload))))
 
-pub never-behind : (space room : ℕ) (h : Held) (number : ℕ) (payload : List ℕ) (at : ℕ) → ahead h number ≡ true → taken space room h number payload ≡ refused 14 at → ⊥
-never-behind space room h number payload at t e = subst Other e (taken-other space room h number payload t) refl
+answered-other : (x : Answer Taken) → Other x → Other (answered x)
+answered-other (given t) h = tt
+answered-other (refused n at) h = h
+
+pub fourteen-only : (state : State) (number : ℕ) (payload store output : List ℕ) (at : ℕ)
+    → receiveAnswer state number payload store output ≡ refused 14 at → ahead (heldIn state store) number ≡ false
+unfolding outcome
+fourteen-only state number payload store output at =
+    by-cond (λ (x : Answer Taken). answered x ≡ refused 14 at → ahead (heldIn state store) number ≡ false)
+    (ltb (length store) (state .«open») || ltb fragmentLimit (state .«open»)) _ _
+    (λ t e. absurd (subst Other e (λ z. omega arith) refl))
+    (λ t e. split-on (ahead (heldIn state store) number)
+    (λ u. absurd (subst Other e (answered-other (taken (length store) (length output) (heldIn state store) number payload) (taken-other (length store) (length output) (heldIn state store) number payload u)) refl))
+    (λ u. u))
+
+pub fourteen-when : (state : State) (number : ℕ) (payload store output : List ℕ)
+    → state .«open» ≤ length store → state .«open» ≤ fragmentLimit → 1 ≤ length payload → length payload ≤ payloadLimit
+    → ahead (heldIn state store) number ≡ false → receiveAnswer state number payload store output ≡ refused 14 0
+unfolding outcome taken
+fourteen-when state number payload store output h k l m e =
+    rw (le-ltb (length store) (state .«open») h, le-ltb fragmentLimit (state .«open») k, ne-eqb (length payload) 0 (λ z. omega arith), le-ltb payloadLimit (length payload) m, e)

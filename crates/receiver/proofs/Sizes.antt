@@ -12,9 +12,10 @@ use Rattle.base.specs.Answers.{Answer, given, refused}
 use Rattle.base.specs.Lists.{All}
 use Rattle.obu.specs.Wire.{wire}
 use Rattle.element.specs.Elements.{payloadLimit, bytesOf, payloadElements}
+use Rattle.element.specs.Laws.{InOrder}
 use Rattle.element.specs.declared.Part.{Part}
 use Rattle.element.proofs.Laws.{bytes-length}
-use Rattle.element.proofs.Order.{InOrder, in-order, checked}
+use Rattle.element.proofs.Order.{in-order, checked}
 use Rattle.handing.specs.Handing.{fragmentLimit, before, wires}
 use Rattle.handing.proofs.Cursors.{payload-some}
 use Rattle.handing.proofs.Turns.{wire-grows}

@@ -17,6 +17,7 @@ use Rattle.packetizer.proofs.plan_unit as planUnit
 use Rattle.aggregation.proofs.get_aggregation_header as getAggregationHeader
 use Rattle.aggregation.proofs.header_of as headerOf
 use Rattle.payloader.proofs.payload as payload
+use Rattle.element.proofs.walk_elements as walkElements
 use Rattle.element.proofs.element as element
 use Rattle.receiver.proofs.receive as receive
 use Rattle.train.proofs.read_head as readHead
@@ -32,7 +33,7 @@ use Rattle.listing.proofs.start as planlistStart
 use Rattle.unpacking.proofs.start as unpackStart
 use Rattle.settled.specs.Settled.{Settled, SettledBy, SamePart}
 use Rattle.settled.proofs.Law.{meet, settles}
-use Rattle.settled.proofs.Answers.{size-one, list-one, plan-one, header-one, payloads-one, receipt-one, head-one, stated-one, found-one}
+use Rattle.settled.proofs.Answers.{size-one, list-one, plan-one, header-one, payloads-one, walk-one, receipt-one, head-one, stated-one, found-one}
 
 pub read-leb128 : Settled readLeb128.ended (λ M. readLeb128.clauses)
 read-leb128 =
@@ -71,6 +72,10 @@ payloads =
 pub same-header : (a b : HeaderAnswer) (os : List Obu) (ps : List PacketMetadata) (k : ℕ)
     → paper a ≡ headerOf (obusIn (flat os)) (packetsIn (flatPlan ps)) k → paper b ≡ headerOf os ps k → a ≡ b
 same-header a b os ps k e f = header-one a b (e ∙ alike os ps k ∙ sym f)
+
+pub walk-elements : Settled walkElements.ended (λ M. walkElements.clauses)
+walk-elements =
+    settles walkElements.ended _ _ _ (λ M 𝓤 H A mem run κs a. refl) (λ κs a x y p q. (walk-one _ _ (meet p q), refl))
 
 -- bytes at a place
 pub element-of : SettledBy element.ended (λ κs. SamePart) (λ M. element.clauses)

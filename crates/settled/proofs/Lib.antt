@@ -2,4 +2,5 @@
 pub mod Law
 pub mod Answers
 pub mod Calls
+pub mod SmallCalls
 pub mod Exports

@@ -10,13 +10,10 @@ use lib.Dec.{eqb}
 use Rattle.base.specs.Answers.{given, refused}
 use Rattle.train.specs.Bytes.{valueOf}
 use Rattle.train.specs.Train.{Packet, trainVersion, numberWidth, stated, lengthOf, Front, ends, holds, stops, bodyOf, frontBy, frontOf, packetIn, followed, recordsFrom, headOf, trainBy, trainIn, standing}
+use Rattle.train.specs.Laws.{Prefix}
 use Rattle.train.specs.declared.RecordHead.{RecordHead}
 use Rattle.train.proofs.Reading.{length-stated, stated-within, body-found, body-holds}
 use Rattle.train.proofs.Stepping.{front-by, front-spans}
-
-pub record Prefix (a b : List Packet) : Type 0 where
-  pub rest : List Packet
-  pub is : b ≡ a ++ rest
 
 -- ---- more bytes change nothing at the front, where a packet is held
 

@@ -2,7 +2,7 @@
 --     records-then   written records, and then anything: reading gives them, and goes on with the rest
 --     written-read   a train reads back as the same packets
 use mathlib.Core.Path.{_≡_, refl, sym, ap, ap₂, _∙_}
-use Prim.Native.Nat.{ℕ, zero, suc, _+_, _-_, _^_, _≤_, _<_}
+use Prim.Native.Nat.{ℕ, zero, suc, _+_, _-_, _≤_}
 use native.Mathlib.Omega.{arith}
 use mathlib.Core.List.{List, [], _∷_, _++_, append-nil, append-assoc, flatMap}
 use lib.ListN.{length, take, drop, length-append}
@@ -10,22 +10,13 @@ use lib.Seq.{take-at, drop-at}
 use Rattle.base.specs.Answers.{given}
 use Rattle.train.specs.Bytes.{bigEndian, valueOf}
 use Rattle.train.specs.Train.{Packet, ended, trainVersion, numberWidth, stated, lengthOf, Front, holds, bodyOf, frontBy, frontOf, headBytes, recordBytes, packetIn, followed, recordsFrom, recordsOf, headOf, trainOf, trainIn}
+use Rattle.train.specs.Laws.{Fits, AllFit}
 use Rattle.train.specs.declared.RecordHead.{RecordHead}
 use Rattle.train.proofs.Numbers.{big-length, value-back}
 use Rattle.train.proofs.Reading.{length-stated, body-found}
 use Rattle.train.proofs.Stepping.{records-step, before}
 
 -- ---- what is written reads back
-
--- a packet that a record of this width can hold: a 16-bit number, one byte or more, and a length that the field can state
-pub record Fits (w : ℕ) (p : Packet) : Type 0 where
-  pub numbered : p .number < 65536
-  pub some : 1 ≤ length (p .payload)
-  pub short : numberWidth + length (p .payload) < 256 ^ w
-
-abbrev pub AllFit : ℕ → List Packet → Type 0
-AllFit w [] = Unit {0}
-AllFit w (p ∷ ps) = Fits w p × AllFit w ps
 
 width-some : (w : ℕ) (p : Packet) → Fits w p → 1 ≤ w
 width-some zero p f = absurd (omega (arith, f .short))

@@ -1,3 +1,4 @@
 pub mod Bytes
 pub mod Train
 pub mod Paper
+pub mod Laws

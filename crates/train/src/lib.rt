@@ -67,6 +67,7 @@ pub fn read_head(bytes: &[u8]) -> HeadRead
 }
 
 // The number that the two bytes at `at` form, the higher first.
+// Helper: the two bytes must be there.
 pub fn two_bytes(bytes: &[u8], at: usize) -> u16
     requires { ⌜ at + 2 ≤ length (now bytes) ⌝ }
     ensures { λ r. ⌜ r ≡ valueOf (take 2 (drop at (now (bytes .entry)))) ⌝ }
@@ -77,6 +78,7 @@ pub fn two_bytes(bytes: &[u8], at: usize) -> u16
 }
 
 // The number that the four bytes at `at` form, the highest first.
+// Helper: the four bytes must be there.
 pub fn four_bytes(bytes: &[u8], at: usize) -> usize
     requires { ⌜ at + 4 ≤ length (now bytes) ⌝ }
     ensures { λ r. ⌜ r ≡ valueOf (take 4 (drop at (now (bytes .entry)))) ⌝ }
@@ -104,6 +106,7 @@ pub fn read_length(bytes: &[u8]) -> LengthRead
 }
 
 // Number and payload of a record, which stand at the front of some bytes, or what there is of them.
+// Helper: the stated length must be 3 or more.
 pub fn read_body(bytes: &[u8], stated: usize) -> RecordRead
     requires { ⌜ leastStated ≤ stated ⌝ }
     ensures { λ r. ⌜ paperRecord r ≡ bodyOf stated 0 (now (bytes .entry)) ⌝ }
@@ -143,7 +146,8 @@ pub fn read_record(bytes: &[u8], at: usize) -> RecordRead
     }
 }
 
-// What stands before a payload: the stated length and the number.
+// What stands before a payload: the stated length and the number. Any length is written, 0 to 2 too, though no reader takes such a
+// record (R23): a payload of n bytes, 1 or more, states n + 2.
 pub fn record_head(stated: u16, number: u16) -> [u8; 4]
     ensures { λ r. ⌜ r ≡ headBytes lengthWidth stated number ⌝ }
 {
@@ -156,6 +160,7 @@ pub fn record_head(stated: u16, number: u16) -> [u8; 4]
 }
 
 // Writes the head of a record with so many payload bytes at the cursor `at`, and returns the cursor after it.
+// Helper: `out` must have space for four bytes, and the payload at most 65,533.
 pub fn put_record_head(out: &mut [u8], at: usize, number: u16, size: u16) -> usize
     requires { ⌜ (at + lengthWidth + numberWidth ≤ length (now out)) × (numberWidth + size < 256 ^ lengthWidth) ⌝ }
     ensures { λ r. ⌜ (r ≡ at + lengthWidth + numberWidth)

@@ -90,6 +90,7 @@ pub fn next_count(k: u64) -> u64
 }
 
 // A number in decimal at the cursor `at`, and the cursor after it.
+// Helper: `line` must have space for 20 digits.
 pub fn put_decimal(n: u64, line: &mut [u8], at: usize) -> usize
     requires { ⌜ at + mostDigits ≤ length (now line) ⌝ }
     ensures { λ r. ⌜ Put (now (line .entry)) (now (line .exit)) at r (decimal n) ⌝ }
@@ -155,6 +156,7 @@ fn put_line(subject: Subject, word: Word, line: &mut [u8]) -> usize
 }
 
 // A line is said, nothing is written, and so many bytes are read.
+// Helper: `line` must have exactly LINE_BYTES bytes.
 pub fn say(subject: Subject, word: Word, read: usize, line: &mut [u8]) -> Order
     requires { ⌜ length (now line) ≡ lineBytes ⌝ }
     ensures { λ r. ⌜ (r ≡ record { more = true; write = 0; say = length (lineText subject word); read = read })

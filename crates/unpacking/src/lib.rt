@@ -238,6 +238,8 @@ fn written_subject(k: u64) -> Subject
 }
 
 // The next turn, by what came of the one before: all that `unpack` decides.
+// Helper: every store must have exactly its length (L14, L15), no more bytes may have come than the input holds, and a record that is
+// waited for must state 3 or more.
 pub fn step(
     place: Place,
     came: Came,

@@ -71,6 +71,7 @@ pub fn is_none(losses: Losses) -> bool
 }
 
 // The line at the front of the bytes lent, and how many it has.
+// Helper: `line` must have exactly LINE_BYTES bytes.
 pub fn put_losses(losses: Losses, line: &mut [u8]) -> usize
     requires { ⌜ length (now line) ≡ lineBytes ⌝ }
     ensures { λ r. ⌜ (r ≡ length (lossesLine losses)) × (now (line .exit) ≡ front (lossesLine losses) (now (line .entry))) ⌝ }

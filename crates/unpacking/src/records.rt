@@ -29,6 +29,7 @@ pub fn read_stated(field: &[u8]) -> LengthRead
 }
 
 // Gives the receiver the packet of a record that states so many bytes, of which these were read.
+// Helper: the stated length must be 3 or more.
 pub fn unpack_record(
     state: State,
     stated: usize,

@@ -5,7 +5,8 @@ use native.Mathlib.Omega.{arith}
 use lib.ListN.{length, take}
 use Rattle.obu.specs.Front.{headBytes, found, frontOf}
 use Rattle.obu.specs.Paper.{paperHead, paperRead}
-use Rattle.obu.proofs.Fronts.{some-all, Spans, front-spans}
+use Rattle.obu.specs.Laws.{Spans}
+use Rattle.obu.proofs.Fronts.{some-all, front-spans}
 use Rattle.obu.proofs.Wires.{whole-found, whole-short, whole-stopped}
 use borrow.Author.Needs.{needs}
 use Rattle.obu.proofs.whole_obu.Statement.{statement}

@@ -7,8 +7,9 @@ use lib.ListN.{length, getD}
 use Rattle.obu.specs.Unit.{unitLimit}
 use Rattle.packetizer.specs.Plan.{newPacket, planFrom, planOf}
 use Rattle.packetizer.specs.Paper.{recorded, sizesIn}
+use Rattle.packetizer.specs.Laws.{Positive}
 use Rattle.packetizer.proofs.Stores.{recorded-none}
-use Rattle.packetizer.proofs.Planning.{Positive, plan-none, plan-low, plan-some}
+use Rattle.packetizer.proofs.Planning.{plan-none, plan-low, plan-some}
 use Rattle.packetizer.proofs.Turns.{sizes-count, sizes-at, Small, small-positive, plan-few, current-held, Placing, placing-first, placing-room, placing-next, placing-count, placing-end}
 use Rattle.packetizer.proofs.packetize.Statement.{statement}
 use Rattle.packetizer.proofs.packetize.Tie as tie

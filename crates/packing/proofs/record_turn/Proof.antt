@@ -1,4 +1,3 @@
-use Rattle.obu.proofs.Theorems.{Bytes}
 use mathlib.Core.Path.{sym, ap, ap₂, _∙_}
 use Prim.Native.Nat.{ℕ, _*_}
 use native.Mathlib.Omega.{arith}
@@ -7,6 +6,7 @@ use lib.Seq.{length-take-le}
 use Rattle.base.specs.Lists.{front}
 use Rattle.leb128.specs.Field.{encode}
 use Rattle.obu.specs.Unit.{obusOf}
+use Rattle.obu.specs.Laws.{Bytes}
 use Rattle.packetizer.specs.Plan.{planNumbers}
 use Rattle.packetizer.specs.Call.{unitPlan}
 use Rattle.aggregation.specs.Header.{noPacket}

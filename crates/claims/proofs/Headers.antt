@@ -1,0 +1,26 @@
+-- The aggregation header.
+use Rattle.aggregation.proofs.Laws as laws
+use Rattle.aggregation.proofs.Headers as headers
+use Rattle.settled.proofs.Calls as calls
+use Rattle.claims.specs.Headers.{ByteZ, ByteY, ByteW, ByteN, ByteLow, Alike, SameHeader}
+
+pub byte-z : ByteZ
+byte-z = laws.byte-z
+
+pub byte-y : ByteY
+byte-y = laws.byte-y
+
+pub byte-w : ByteW
+byte-w = laws.byte-w
+
+pub byte-n : ByteN
+byte-n = laws.byte-n
+
+pub byte-low : ByteLow
+byte-low = laws.byte-low
+
+pub alike : Alike
+alike = headers.alike
+
+pub same-header : SameHeader
+same-header = calls.same-header

@@ -1,0 +1,24 @@
+-- Payloads.
+use mathlib.Core.Path.{_≡_}
+use mathlib.Core.List.{map}
+use Rattle.payloader.proofs.Totals as totals
+use Rattle.payload_laws.proofs.Lengths as lengths
+use Rattle.payload_laws.proofs.Rows as rows
+use Rattle.claims.specs.Payloads.{PayloadAt, PayloadSize, PayloadFits, JoinedLength}
+
+pub payload-at : PayloadAt
+payload-at = lengths.payload-at
+
+pub payload-size : PayloadSize
+payload-size = lengths.payload-size
+
+pub payload-fits : PayloadFits
+payload-fits = lengths.payload-fits
+
+pub joined-length : JoinedLength
+joined-length = totals.joined-length
+
+-- the rows of U marked P, computed
+
+pub table : map rows.answered rows.rows ≡ map (λ (r : rows.Row). r .result) rows.rows
+table = rows.table

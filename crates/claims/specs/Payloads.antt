@@ -1,0 +1,34 @@
+-- Payloads (Y5, P13).
+use mathlib.Core.Path.{_≡_}
+use Prim.Native.Nat.{ℕ, _+_, _≤_, _<_}
+use mathlib.Core.List.{List, []}
+use lib.ListN.{length, getD}
+use Rattle.leb128.specs.Field.{encode}
+use Rattle.obu.specs.Unit.{unitLimit, obusOf}
+use Rattle.obu.specs.Laws.{Bytes}
+use Rattle.packetizer.specs.Call.{unitPlan}
+use Rattle.aggregation.specs.Header.{noPacket}
+use Rattle.payloader.specs.Payload.{payload, payloadsOf, joined, plannedBytes}
+
+-- Y5: payload k is that of record k
+abbrev pub PayloadAt : Type 0
+PayloadAt =
+    (mtu : ℕ) (unit : List ℕ) (k : ℕ) → k < length (unitPlan mtu unit)
+    → getD (payloadsOf mtu unit) k [] ≡ payload encode unit (obusOf unit) k (getD (unitPlan mtu unit) k noPacket)
+
+-- P13: it has a byte more than its packet size; 2 bytes at least, and at most as many as the mtu
+abbrev pub PayloadSize : Type 0
+PayloadSize =
+    (mtu : ℕ) (unit : List ℕ) → length unit ≤ unitLimit → Bytes unit → (k : ℕ) → k < length (payloadsOf mtu unit)
+    → length (getD (payloadsOf mtu unit) k []) ≡ getD (unitPlan mtu unit) k noPacket .«packet_size» + 1
+
+abbrev pub PayloadFits : Type 0
+PayloadFits =
+    (mtu : ℕ) (unit : List ℕ) → length unit ≤ unitLimit → Bytes unit → (k : ℕ) → k < length (payloadsOf mtu unit)
+    → (2 ≤ length (getD (payloadsOf mtu unit) k [])) × (length (getD (payloadsOf mtu unit) k []) ≤ mtu)
+
+-- R10: together they have as many bytes as the plan says
+abbrev pub JoinedLength : Type 0
+JoinedLength =
+    (mtu : ℕ) (unit : List ℕ) → length unit ≤ unitLimit → Bytes unit
+    → length (joined (payloadsOf mtu unit)) ≡ plannedBytes (unitPlan mtu unit)

@@ -1,0 +1,54 @@
+-- The plan (P5, P11 to P14).
+use mathlib.Core.Path.{_≡_}
+use Prim.Native.Nat.{ℕ, _-_, _≤_, _<_}
+use mathlib.Core.List.{List, dropLast, flatMap}
+use mathlib.Core.Bool.{cond}
+use lib.ListN.{length, getD}
+use Rattle.base.specs.Lists.{All}
+use Rattle.packetizer.specs.Fragment.{largestFragment, Largest}
+use Rattle.packetizer.specs.Plan.{leastMtu, newPacket, isFourth, leftIn, fragmentOf, planOf}
+use Rattle.packetizer.specs.Elements.{elementsOf, totalSize}
+use Rattle.packetizer.specs.Call.{sizesOf, unitPlan}
+use Rattle.packetizer.specs.Laws.{Positive, position, Sound, Runs, EndsObu, partOf, joined, sentOf}
+use Rattle.packetizer.specs.declared.PacketMetadata.{PacketMetadata}
+
+-- P12: the largest fragment is the largest that fits with its length field
+abbrev pub LargestIs : Type 0
+LargestIs = (r : ℕ) → Largest r (largestFragment r)
+
+-- P11: only an OBU of one byte is taken out again
+abbrev pub TakenOutOne : Type 0
+TakenOutOne =
+    (room : ℕ) (p : PacketMetadata) (s : ℕ) → cond (isFourth p) 2 1 ≤ leftIn room p → 1 ≤ s → fragmentOf room p s ≡ 0 → s ≡ 1
+
+-- ---- for OBUs of at least one byte and an mtu from the smallest on; those of a unit are such
+
+abbrev pub UnitPositive : Type 0
+UnitPositive = (unit : List ℕ) → Positive (sizesOf unit)
+
+-- P13: from the start of OBU 0 to the end of the last one, each record from where the one before ended, and each as `Sound` says
+abbrev pub PlanRuns : Type 0
+PlanRuns =
+    (mtu : ℕ) (sizes : List ℕ) → leastMtu ≤ mtu → Positive sizes
+    → Runs (mtu - 1) sizes (position 0 0) (planOf mtu sizes) (position (length sizes) 0)
+
+abbrev pub PlanSound : Type 0
+PlanSound =
+    (mtu : ℕ) (sizes : List ℕ) → leastMtu ≤ mtu → Positive sizes
+    → (k : ℕ) → k < length (planOf mtu sizes) → Sound (mtu - 1) sizes (getD (planOf mtu sizes) k (newPacket 0))
+
+-- P13: OBUs are cut only where a packet ends
+abbrev pub PlanInner : Type 0
+PlanInner =
+    (mtu : ℕ) (sizes : List ℕ) → leastMtu ≤ mtu → Positive sizes → (k : ℕ) → k < length (planOf mtu sizes)
+    → All (EndsObu sizes) (dropLast (elementsOf sizes (getD (planOf mtu sizes) k (newPacket 0))))
+
+-- P14: at most as many records as kept bytes
+abbrev pub PlanShort : Type 0
+PlanShort = (mtu : ℕ) (sizes : List ℕ) → leastMtu ≤ mtu → Positive sizes → length (planOf mtu sizes) ≤ totalSize sizes
+
+-- P13: the elements, in order, joined, are what is sent of the kept OBUs
+abbrev pub UnitJoined : Type 0
+UnitJoined =
+    (mtu : ℕ) (unit : List ℕ) → leastMtu ≤ mtu
+    → flatMap (partOf (sentOf unit)) (flatMap (elementsOf (sizesOf unit)) (unitPlan mtu unit)) ≡ joined (sentOf unit)

@@ -1,0 +1,19 @@
+-- What of the crate is proved the same.
+pub mod Steps
+pub mod Fields
+pub mod Lengths
+pub mod Fronts
+pub mod Turns
+pub mod Lists
+pub mod Whole
+pub mod WholeSteps
+pub mod WholePlan
+pub mod Plans
+pub mod Headers
+pub mod Elements
+pub mod Pieces
+pub mod Packets
+pub mod Same
+pub mod New
+pub mod Refused
+pub mod Rows

@@ -1,0 +1,170 @@
+-- Crate and port agree on every allowed unit (D2). Assumes nothing.
+--     same-units                list, plan, headers but for N, payloads but for N and how a length is written
+--     equal-payloads            payloads byte for byte, where the two N are the same and no length of 128 or more is written
+--     sent-allowed              a unit that the payload call accepts is allowed
+--     listed-same               the list, where the list call answers with a count
+--     planned-same, sent-same   as same-units, where the plan call or the payload call answers with numbers
+use mathlib.Core.Path.{_≡_, refl, sym, ap, _∙_}
+use Prim.Native.Nat.{ℕ, zero, suc, _+_, _-_, _/_, _≤_, _<_}
+use native.Mathlib.Numerals.{add-one}
+use native.Mathlib.Omega.{arith}
+use mathlib.Core.List.{List, [], _∷_, map}
+use mathlib.Core.Bool.{Bool, true, false, cond}
+use lib.ListN.{length, getD, drop, length-map, drop-of-length-le}
+use lib.Seq.{drop-cons}
+use lib.Dec.{ltb}
+use borrow.Author.Tests.{ltb-false}
+use Rattle.base.specs.Answers.{Answer, given, refused}
+use Rattle.base.proofs.Tests.{split-on}
+use Rattle.obu.specs.Laws.{Bytes}
+use Rattle.obu.specs.Unit.{unitLimit, obuNumbers, Placed, Stop, ended, refusedBy, scanOf, keptOf, obusOf, atStop, listed, listAnswer}
+use Rattle.obu.specs.declared.Obu.{Obu}
+use Rattle.packetizer.specs.Plan.{planNumbers, planOf}
+use Rattle.packetizer.specs.Call.{mtuLimit, sizesOf, unitPlan, planned, planAnswer}
+use Rattle.packetizer.specs.declared.PacketMetadata.{PacketMetadata}
+use Rattle.packetizer.specs.declared.Planned.{Planned}
+use Rattle.packetizer.specs.Laws.{Sound}
+use Rattle.packetizer.proofs.Calls.{unit-small, given-kept}
+use Rattle.aggregation.specs.Header.{noPacket, nOf, byteOf, headerOf}
+use Rattle.aggregation.proofs.Headers.{header-given}
+use Rattle.payloader.specs.Payload as ours
+use Rattle.payloader.specs.Call as call
+use Rattle.payloader.specs.declared.Payloads.{Payloads}
+use Rattle.payloader.proofs.Units.{obu-lies}
+use Rattle.payloader.proofs.Bodies.{sizes}
+use Rattle.payloader.proofs.Packets.{packet-sound}
+use Rattle.crate_laws.specs.Rust.{Outcome, ok}
+use Rattle.crate_laws.specs.Packetizer.{«packetize»}
+use Rattle.crate_laws.specs.Payload.{packetOf, packetsFrom, payload}
+use Rattle.crate_laws.specs.Pieces.{writtenBy, crateWriter, zywOf, packetPieces, piecesFrom, piecesOf}
+use Rattle.crate_laws.specs.Same.{Allowed, asCrate, crateObus, crateSizes, In32Bits, SameHeader, SameUnits, EqualPayloads, SentAllowed, ListedSame, PlannedSame, SentSame}
+use Rattle.crate_laws.proofs.Lists.{parse-same}
+use Rattle.crate_laws.proofs.Plans.{same-plans}
+use Rattle.crate_laws.proofs.Headers.{header-same}
+use Rattle.crate_laws.proofs.Packets.{packet-is}
+use Rattle.crate_laws.proofs.Pieces.{payloads-written, equal-pieces}
+
+sizes-same : (unit : List ℕ) (obus : List Obu) → crateSizes (map (asCrate unit) obus) ≡ sizes obus
+sizes-same unit [] = refl
+sizes-same unit (o ∷ obus) = ap {B = List ℕ} (λ l. o .size ∷ l) (sizes-same unit obus)
+
+-- ---- all packets
+
+module _ (unit : List ℕ) (obus : List Obu) (packets : List PacketMetadata)
+    (each :
+    (k : ℕ) → k < length packets
+    → packetOf (map (asCrate unit) obus) packets k
+    ≡ ok (writtenBy (crateWriter (map (asCrate unit) obus)) (packetPieces unit obus k (getD packets k noPacket))))
+  where
+    packets-from : (left k : ℕ) → left + k ≡ length packets
+        → packetsFrom left (map (asCrate unit) obus) packets k
+        ≡ ok (map (writtenBy (crateWriter (map (asCrate unit) obus))) (piecesFrom unit obus k (drop k packets)))
+    unfolding packetsFrom piecesFrom
+    packets-from zero k e = let h : length packets ≤ k = omega arith in rw (drop-of-length-le packets h)
+    packets-from (suc left) k e =
+        rw (each k (omega arith), packets-from left (k + 1) (omega arith), drop-cons packets k noPacket (omega arith), add-one k)
+
+module _ (mtu : ℕ) (unit : List ℕ) (bytes : Bytes unit) (a : Allowed mtu unit) where
+  abbrev os : List Obu
+  os = obusOf unit
+
+  abbrev plan : List PacketMetadata
+  plan = unitPlan mtu unit
+
+  in-32-bits : In32Bits (crateSizes (crateObus unit))
+  in-32-bits = rw (sizes-same unit os) (λ j l. let s = unit-small unit (a .short) j l in omega arith)
+
+  plan-same : «packetize» (crateObus unit) mtu ≡ ok plan
+  plan-same =
+      same-plans (crateObus unit) mtu (omega (arith, a .low)) in-32-bits
+      ∙ ap {B = Outcome (List PacketMetadata)} (λ (l : List ℕ). ok (planOf mtu l)) (sizes-same unit os)
+
+  sound : (k : ℕ) → k < length plan → Sound (mtu - 1) (sizesOf unit) (getD plan k noPacket)
+  sound k h = packet-sound mtu unit k (a .short) h
+
+  payload-is : payload mtu unit ≡ ok (map (writtenBy (crateWriter (crateObus unit))) (piecesOf mtu unit))
+  unfolding payload
+  payload-is =
+      rw (parse-same unit bytes (a .whole), plan-same)
+      (packets-from unit os plan (λ k h. packet-is unit os (λ i l. obu-lies unit i bytes l) (mtu - 1) plan k h (sound k h)) (length plan) 0 (omega arith))
+
+  our-header : (k : ℕ) → headerOf os plan k ≡ given (byteOf os (getD plan k noPacket) k)
+      → headerOf os plan k ≡ given (zywOf os (getD plan k noPacket) + nOf os k)
+  unfolding byteOf zywOf
+  our-header k e = e
+
+  header-both : (k : ℕ) → k < length plan → SameHeader mtu unit k
+  header-both k h =
+      let s = sound k h in
+      let inside : getD plan k noPacket .«first_obu_index» + getD plan k noPacket .«num_obu_elements» ≤ length os =
+      omega (arith, s .inside, length-map os (λ (o : Obu). o .size)) in
+      record { theirs = header-same unit os plan k h (s .some) inside; ours = our-header k (header-given os plan k h (s .some) inside) }
+
+pub same-units : SameUnits
+same-units mtu unit bytes a =
+    record {
+      list = parse-same unit bytes (a .whole);
+      plan = plan-same mtu unit bytes a;
+      headers = header-both mtu unit bytes a;
+      payloads = payload-is mtu unit bytes a;
+      ours = payloads-written unit (obusOf unit) 0 (unitPlan mtu unit);
+    }
+
+pub equal-payloads : EqualPayloads
+equal-payloads mtu unit bytes a short new =
+    let s = same-units mtu unit bytes a in
+    s .payloads ∙ ap {B = Outcome (List (List ℕ))} ok (equal-pieces (crateObus unit) (obusOf unit) (piecesOf mtu unit) new short ∙ sym (s .ours))
+
+-- ---- the calls: what they answer with numbers is accepted
+
+-- the list call, with space for so many records
+listed-ended : (unit : List ℕ) (space n : ℕ) → given n ≡ listed space unit → scanOf unit .stop ≡ ended
+unfolding listed
+listed-ended unit space n e = by-stop (ltb unitLimit (length unit)) (ltb space (length (keptOf unit))) (scanOf unit .stop) e
+  where
+    by-stop : (t u : Bool) (s : Stop)
+        → given n ≡ cond t (refused 2 0) (cond u (refused 8 (getD (map (λ (p : Placed). p .at) (keptOf unit)) space 0)) (atStop s (length (keptOf unit))))
+        → s ≡ ended
+    by-stop true u s e = let z : _≡_ {A = ℕ} 0 1 = cc in absurd (omega arith)
+    by-stop false true s e = let z : _≡_ {A = ℕ} 0 1 = cc in absurd (omega arith)
+    by-stop false false (refusedBy k at) e = let z : _≡_ {A = ℕ} 0 1 = cc in absurd (omega arith)
+    by-stop false false ended e = refl
+
+pub listed-same : ListedSame
+listed-same unit obus n bytes e = parse-same unit bytes (listed-ended unit (length obus / obuNumbers) n (sym e))
+
+module _ (mtu : ℕ) (unit obus plan : List ℕ) where
+  planned-list : (p : Planned) (ps : List PacketMetadata) (space : ℕ) (l : Answer ℕ) → planned ps space l ≡ given p → (n : ℕ) × (l ≡ given n)
+  planned-list p ps space (given n) e = (n, refl)
+  planned-list p ps space (refused n at) e = let z : _≡_ {A = ℕ} 0 1 = cc in absurd (omega arith)
+
+  planned-allowed : (p : Planned) → planAnswer mtu unit obus plan ≡ given p → Allowed mtu unit
+  unfolding planAnswer
+  planned-allowed p e = split-on (ltb mtuLimit mtu)
+      (λ t.
+      let f : refused 1 0 ≡ given p = rw t at e in
+      let z : _≡_ {A = ℕ} 0 1 = cc in
+      absurd (omega arith))
+      (λ t.
+      let (n, q) = planned-list p (unitPlan mtu unit) (length plan / planNumbers) (listAnswer unit obus) (rw t at e) in
+      let k = given-kept unit (length obus / obuNumbers) n (sym q) in
+      record { low = ltb-false mtuLimit mtu t; short = k .0; whole = listed-ended unit (length obus / obuNumbers) n (sym q) })
+
+  written-plan : (r : Payloads) (l : List ℕ) (space : ℕ) (a : Answer Planned) → call.written l space a ≡ given r → (p : Planned) × (a ≡ given p)
+  written-plan r l space (given p) e = (p, refl)
+  written-plan r l space (refused n at) e = let z : _≡_ {A = ℕ} 0 1 = cc in absurd (omega arith)
+
+  sent-planned : (out : List ℕ) (r : Payloads) → call.payloadAnswer mtu unit obus plan out ≡ given r → (p : Planned) × (planAnswer mtu unit obus plan ≡ given p)
+  unfolding call.payloadAnswer
+  sent-planned out r e = written-plan r (ours.joined (ours.payloadsOf mtu unit)) (length out) (planAnswer mtu unit obus plan) e
+
+pub planned-same : PlannedSame
+planned-same mtu unit obus plan p bytes e = same-units mtu unit bytes (planned-allowed mtu unit obus plan p e)
+
+pub sent-allowed : SentAllowed
+sent-allowed mtu unit obus plan out r e =
+    let (p, q) = sent-planned mtu unit obus plan out r e in
+    planned-allowed mtu unit obus plan p q
+
+pub sent-same : SentSame
+sent-same mtu unit obus plan out r bytes e = same-units mtu unit bytes (sent-allowed mtu unit obus plan out r e)

@@ -1,0 +1,9 @@
+pub mod Rust
+pub mod Leb128
+pub mod Obu
+pub mod Packetizer
+pub mod Payload
+pub mod Pieces
+pub mod Same
+pub mod Parted
+pub mod Turns

@@ -1,0 +1,30 @@
+-- What the laws of OBUs are stated with.
+use mathlib.Core.Path.{_≡_}
+use Prim.Native.Nat.{ℕ, _+_, _≤_, _<_}
+use mathlib.Core.List.{List}
+use mathlib.Core.Logic.{_⊎_}
+use lib.ListN.{length, getD}
+use Rattle.leb128.specs.Field.{encode}
+use Rattle.obu.specs.Header.{headerSize}
+use Rattle.obu.specs.Front.{spanOf, Seen, found, stopped}
+use Rattle.obu.specs.Unit.{Placed}
+
+-- numbers that are bytes
+abbrev pub Bytes : List ℕ → Type 0
+Bytes l = (i : ℕ) → getD l i 0 < 256
+
+-- what is found at the front of the bytes lies in them; and its size field is no shorter than the shortest, or it is the last
+abbrev pub Spans : List ℕ → Seen → Type 0
+Spans l (found f) = (spanOf f ≤ length l) × ((length (encode (f .payload)) ≤ f .field) ⊎ (spanOf f ≡ length l))
+Spans l (stopped n) = Unit {0}
+
+-- a found OBU: where its payload starts, that it ends in a unit of so many bytes, and its size
+pub record Inside (total : ℕ) (p : Placed) : Type 0 where
+  pub start : p .obu .start ≡ p .at + (headerSize (p .obu .header) + p .field)
+  pub within : p .obu .start + p .obu .length ≤ total
+  pub size : p .obu .size ≡ headerSize (p .obu .header) + p .obu .length
+
+-- its header and extension byte are bytes
+pub record Small (p : Placed) : Type 0 where
+  pub header : p .obu .header < 256
+  pub extension : p .obu .extension < 256
