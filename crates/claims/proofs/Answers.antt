@@ -1,4 +1,4 @@
--- Answers, and how they cross.
+-- Answers: number and values tell the cases of each apart.
 use Rattle.base.specs.Refusals.{numberOf}
 use Rattle.leb128.specs.Paper as leb128
 use Rattle.obu.specs.Paper as obu
@@ -9,13 +9,9 @@ use Rattle.element.specs.Paper as element
 use Rattle.handing.specs.Paper as handing
 use Rattle.receiver.specs.Paper as receiver
 use Rattle.train.specs.Paper as train
-use Rattle.av1rtp.specs.Calls as border
 use Rattle.base.proofs.Refusals as base
 use Rattle.settled.proofs.Answers as answers
-use Rattle.av1rtp.proofs.Laws as laws
-use Rattle.claims.specs.Answers.{TellsApart, NeverZero, ToldApart, StateFresh, StateBack}
-
--- number and values tell the cases of each answer apart
+use Rattle.claims.specs.Answers.{TellsApart}
 
 pub refusal : TellsApart numberOf
 refusal = base.number-one
@@ -61,32 +57,3 @@ length-read = answers.stated-one
 
 pub record-read : TellsApart train.paperRecord
 record-read = answers.found-one
-
--- at the border
-
-pub never-zero : NeverZero
-never-zero = laws.never-zero
-
-pub told-apart : ToldApart
-told-apart = λ A. laws.told-apart
-
-pub one-word : TellsApart border.one
-one-word = laws.one-apart
-
-pub planned-words : TellsApart border.plannedWords
-planned-words = laws.planned-apart
-
-pub payloads-words : TellsApart border.payloadsWords
-payloads-words = laws.payloads-apart
-
-pub field-words : TellsApart border.fieldWords
-field-words = laws.field-apart
-
-pub record-words : TellsApart border.recordWords
-record-words = laws.record-apart
-
-pub state-fresh : StateFresh
-state-fresh = laws.state-fresh
-
-pub state-back : StateBack
-state-back = laws.state-back

@@ -1,33 +1,6 @@
--- Answers, and how they cross to C and Rust (W14, A3, V1).
+-- Answers (W14, A3).
 use mathlib.Core.Path.{_≡_}
-use Prim.Native.Nat.{ℕ, _≤_, _<_}
-use mathlib.Core.List.{List, [], _∷_}
-use Rattle.base.specs.Answers.{Answer}
-use Rattle.base.specs.Refusals.{numberOf}
-use Rattle.base.specs.declared.Refusal.{Refusal}
-use Rattle.receiver.specs.Joining.{fresh}
-use Rattle.receiver.specs.Call.{stateOf}
-use Rattle.receiver.specs.declared.State.{State}
-use Rattle.av1rtp.specs.Words.{Named, numberIn, wordsIn}
-use Rattle.av1rtp.specs.Calls.{stateIn, stateWords}
 
 -- A3: equal numbers and values, equal answers
 abbrev pub TellsApart : {R P : Type 0} → (R → P) → Type 0
 TellsApart {R} paper = (a b : R) → paper a ≡ paper b → a ≡ b
-
--- no refusal has the number 0
-abbrev pub NeverZero : Type 0
-NeverZero = (r : Refusal) → 1 ≤ numberOf r
-
--- where three words tell what was asked for apart, number and words tell the answers apart
-abbrev pub ToldApart : Type 1
-ToldApart =
-    (A : Type 0) (three : A → List ℕ) → TellsApart three
-    → (x y : Answer A) → Named x → Named y → numberIn x ≡ numberIn y → wordsIn three x ≡ wordsIn three y → x ≡ y
-
--- three zeros are the fresh state, and a state that is handed on in words is that state
-abbrev pub StateFresh : Type 0
-StateFresh = stateIn (0 ∷ 0 ∷ 0 ∷ []) ≡ stateOf fresh
-
-abbrev pub StateBack : Type 0
-StateBack = (s : State) → s .last < 65536 → stateIn (stateWords s) ≡ s

@@ -10,3 +10,4 @@ pub mod Receiving
 pub mod Deliveries
 pub mod Programs
 pub mod Answers
+pub mod Border

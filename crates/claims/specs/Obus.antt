@@ -27,7 +27,7 @@ ScanFound =
       stop = scanFrom (drop (spanOf f) l) 0 (at + spanOf f) .stop;
     }
 
--- O6: every kept OBU lies in its unit; its size is 1 to the unit's length
+-- O6, O7: every kept OBU lies in its unit; its size is 1 to the unit's length
 abbrev pub KeptInside : Type 0
 KeptInside = (unit : List ℕ) → All (Inside (length unit)) (keptOf unit)
 

@@ -1,4 +1,4 @@
--- Payloads (Y5, P13).
+-- Payloads (Y1, Y5, P13).
 use mathlib.Core.Path.{_≡_}
 use Prim.Native.Nat.{ℕ, _+_, _≤_, _<_}
 use mathlib.Core.List.{List, []}
@@ -10,7 +10,7 @@ use Rattle.packetizer.specs.Call.{unitPlan}
 use Rattle.aggregation.specs.Header.{noPacket}
 use Rattle.payloader.specs.Payload.{payload, payloadsOf, joined, plannedBytes}
 
--- Y5: payload k is that of record k
+-- Y1: payload k is that of record k
 abbrev pub PayloadAt : Type 0
 PayloadAt =
     (mtu : ℕ) (unit : List ℕ) (k : ℕ) → k < length (unitPlan mtu unit)
@@ -27,7 +27,7 @@ PayloadFits =
     (mtu : ℕ) (unit : List ℕ) → length unit ≤ unitLimit → Bytes unit → (k : ℕ) → k < length (payloadsOf mtu unit)
     → (2 ≤ length (getD (payloadsOf mtu unit) k [])) × (length (getD (payloadsOf mtu unit) k []) ≤ mtu)
 
--- R10: together they have as many bytes as the plan says
+-- Y5: together they have as many bytes as the plan says
 abbrev pub JoinedLength : Type 0
 JoinedLength =
     (mtu : ℕ) (unit : List ℕ) → length unit ≤ unitLimit → Bytes unit

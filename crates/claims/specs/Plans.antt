@@ -1,4 +1,4 @@
--- The plan (P5, P11 to P14).
+-- The plan (P11 to P14).
 use mathlib.Core.Path.{_≡_}
 use Prim.Native.Nat.{ℕ, _-_, _≤_, _<_}
 use mathlib.Core.List.{List, dropLast, flatMap}
@@ -26,7 +26,7 @@ TakenOutOne =
 abbrev pub UnitPositive : Type 0
 UnitPositive = (unit : List ℕ) → Positive (sizesOf unit)
 
--- P13: from the start of OBU 0 to the end of the last one, each record from where the one before ended, and each as `Sound` says
+-- P13, P14: from the start of OBU 0 to the end of the last one, each record from where the one before ended, and each as `Sound` says
 abbrev pub PlanRuns : Type 0
 PlanRuns =
     (mtu : ℕ) (sizes : List ℕ) → leastMtu ≤ mtu → Positive sizes
@@ -37,7 +37,7 @@ PlanSound =
     (mtu : ℕ) (sizes : List ℕ) → leastMtu ≤ mtu → Positive sizes
     → (k : ℕ) → k < length (planOf mtu sizes) → Sound (mtu - 1) sizes (getD (planOf mtu sizes) k (newPacket 0))
 
--- P13: OBUs are cut only where a packet ends
+-- P14: OBUs are cut only where a packet ends
 abbrev pub PlanInner : Type 0
 PlanInner =
     (mtu : ℕ) (sizes : List ℕ) → leastMtu ≤ mtu → Positive sizes → (k : ℕ) → k < length (planOf mtu sizes)

@@ -1,0 +1,32 @@
+-- How answers and states cross to C and Rust.
+use Rattle.av1rtp.specs.Calls as border
+use Rattle.av1rtp.proofs.Laws as laws
+use Rattle.claims.specs.Answers.{TellsApart}
+use Rattle.claims.specs.Border.{NeverZero, ToldApart, StateFresh, StateBack}
+
+pub never-zero : NeverZero
+never-zero = laws.never-zero
+
+pub told-apart : ToldApart
+told-apart = λ A. laws.told-apart
+
+pub one-word : TellsApart border.one
+one-word = laws.one-apart
+
+pub planned-words : TellsApart border.plannedWords
+planned-words = laws.planned-apart
+
+pub payloads-words : TellsApart border.payloadsWords
+payloads-words = laws.payloads-apart
+
+pub field-words : TellsApart border.fieldWords
+field-words = laws.field-apart
+
+pub record-words : TellsApart border.recordWords
+record-words = laws.record-apart
+
+pub state-fresh : StateFresh
+state-fresh = laws.state-fresh
+
+pub state-back : StateBack
+state-back = laws.state-back
