@@ -58,9 +58,9 @@ enum av1rtp_refusal {
     /* leaves the OBU list filled, plan and output as they were */
     AV1RTP_PLAN_LIST_FULL = 9,    /* the plan has more records than the plan list */
     /* leaves OBU list and plan filled, the output as it was */
-    AV1RTP_OUTPUT_FULL = 10,      /* the payloads together are longer than the output */
+    AV1RTP_NO_ROOM_FOR_PAYLOADS = 10, /* the payloads together are longer than the output */
     /* header */
-    AV1RTP_NO_SUCH_PACKET = 11,   /* no record k, or one of no element, or one with OBUs beyond the list */
+    AV1RTP_NO_USABLE_PACKET = 11, /* no record k, or one of no element, or one with OBUs beyond the list */
     /* receive: these leave state, store and output as they were. element gives 13, 15, 16 and 17 */
     AV1RTP_STATE_IMPOSSIBLE = 12, /* the state's open length is above the store's length or the fragment's limit */
     AV1RTP_PAYLOAD_LENGTH = 13,   /* payload empty or over its limit */
@@ -70,7 +70,7 @@ enum av1rtp_refusal {
     AV1RTP_ELEMENT_BAD = 17,      /* an element of no bytes, or past the payload's end, or missing */
     AV1RTP_OBU_BROKEN = 18,       /* a finished OBU lacks its second byte, or its size field does not cover exactly the rest */
     AV1RTP_FRAGMENT_TOO_LONG = 19, /* the new open fragment is longer than the store or its limit */
-    AV1RTP_OUTPUT_TOO_SHORT = 20, /* the output is too short for the OBUs of this packet */
+    AV1RTP_NO_ROOM_FOR_OBUS = 20, /* the output is too short for the OBUs of this packet */
     /* trains */
     AV1RTP_TRAIN_VERSION = 21,    /* empty, or of another version than 1 */
     AV1RTP_TRAIN_CUT = 22,        /* ends inside a record */

@@ -67,7 +67,7 @@ impl Receiver {
     fn make_room(&mut self, refusal: Refusal, payload: usize) -> Result<(), Refusal> {
         let (buffer, most) = match refusal.reason() {
             Reason::FragmentTooLong => (&mut self.store, self.longest),
-            Reason::OutputTooShort => (&mut self.out, LONGEST_OUTPUT),
+            Reason::NoRoomForObus => (&mut self.out, LONGEST_OUTPUT),
             _ => return Err(refusal),
         };
         let more = (2 * buffer.len()).max(payload).min(most);

@@ -114,7 +114,7 @@ impl Payloader {
         let grown = match refusal.reason() {
             Reason::ObuListFull => double(&mut self.obus, records * OBU_NUMBERS),
             Reason::PlanListFull => double(&mut self.plan, records * PLAN_NUMBERS),
-            Reason::OutputFull => {
+            Reason::NoRoomForPayloads => {
                 let planned = lent::plan(mtu, unit, &mut self.obus, &mut self.plan)?;
                 let bytes = self.packets(planned.packets).iter().map(|p| p.packet_size + 1).sum();
                 let before = self.out.len();

@@ -36,10 +36,10 @@ int main(void) {
     EXPECT(av1rtp_plan(5, unit, sizeof unit, obus, 10, plan, 9, answer) == AV1RTP_PLAN_LIST_FULL && words(answer, 0, 0, 0, 0));
     EXPECT(av1rtp_payload(5, unit, sizeof unit, obus, 10, plan, 10, out, 8, answer) == 0 && words(answer, 0, 2, 2, 5));
     EXPECT(memcmp(out, payloads, sizeof payloads) == 0);
-    EXPECT(av1rtp_payload(5, unit, sizeof unit, obus, 10, plan, 10, out, 4, answer) == AV1RTP_OUTPUT_FULL);
+    EXPECT(av1rtp_payload(5, unit, sizeof unit, obus, 10, plan, 10, out, 4, answer) == AV1RTP_NO_ROOM_FOR_PAYLOADS);
     EXPECT(av1rtp_payload(65534, unit, sizeof unit, obus, 10, plan, 10, out, 8, answer) == AV1RTP_MTU_OVER_LIMIT);
     EXPECT(av1rtp_header(obus, 10, plan, 10, 1, answer) == 0 && words(answer, 0, 0x10, 0, 0));
-    EXPECT(av1rtp_header(obus, 10, plan, 10, 2, answer) == AV1RTP_NO_SUCH_PACKET);
+    EXPECT(av1rtp_header(obus, 10, plan, 10, 2, answer) == AV1RTP_NO_USABLE_PACKET);
 
     static const uint8_t first[] = {0x58, 0x08}, last[] = {0x90, 0x7F}, two[] = {0x28, 0x02, 0x08, 0x7F, 0x30};
     static const uint8_t obu[] = {0x0A, 0x01, 0x7F};

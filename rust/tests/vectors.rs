@@ -138,8 +138,8 @@ fn fixed_list_with_lists_that_grow() {
 #[test]
 fn header_without_a_packet() {
     let reason = |obus: &[u32], plan: &[u32], k| lent::header(obus, plan, k).unwrap_err().reason();
-    assert_eq!(reason(&[], &[], 0), Reason::NoSuchPacket);
-    assert_eq!(reason(&[48, 0, 0, 0, 1], &[0, 1, 0, 1, 1], 1), Reason::NoSuchPacket);
-    assert_eq!(reason(&[48, 0, 0, 0, 1], &[0, 0, 0, 1, 1], 0), Reason::NoSuchPacket);
-    assert_eq!(reason(&[48, 0, 0, 0, 1], &[u32::MAX, u32::MAX, 0, 1, 1], 0), Reason::NoSuchPacket);
+    assert_eq!(reason(&[], &[], 0), Reason::NoUsablePacket);
+    assert_eq!(reason(&[48, 0, 0, 0, 1], &[0, 1, 0, 1, 1], 1), Reason::NoUsablePacket);
+    assert_eq!(reason(&[48, 0, 0, 0, 1], &[0, 0, 0, 1, 1], 0), Reason::NoUsablePacket);
+    assert_eq!(reason(&[48, 0, 0, 0, 1], &[u32::MAX, u32::MAX, 0, 1, 1], 0), Reason::NoUsablePacket);
 }

@@ -23,12 +23,12 @@ use denote.Triple.Statement.{Contract}
 use denote.Triple.Clauses.{ensured, lasts}
 use denote.Triple.Spec.{tripleOf}
 use Rattle.base.specs.Answers.{given}
-use Rattle.obu.specs.Header.{typeOf}
+use Rattle.obu.specs.Records.{noObu}
 use Rattle.obu.specs.declared.Obu.{Obu}
 use Rattle.packetizer.specs.declared.PacketMetadata.{PacketMetadata}
 use Rattle.packetizer.proofs.PacketMetadata as P
 use Rattle.packetizer.proofs.PacketMetadata.Laws as P′
-use Rattle.aggregation.specs.Header.{noObu, lastObu, lacking, byteOf}
+use Rattle.aggregation.specs.Header.{lastObu, lacking, byteOf}
 use Rattle.aggregation.specs.Paper.{paper}
 use Rattle.aggregation.specs.declared.HeaderAnswer.{HeaderAnswer}
 use Rattle.aggregation.proofs.last_of as last
@@ -42,7 +42,7 @@ LastIs p n i = i ≡ cond (lacking n p) n (lastObu p)
 
 abbrev pub RuleIs : PacketMetadata → ℕ → ℕ → ℕ → HeaderAnswer → Type 0
 RuleIs p s h k r =
-    (obus : List Obu) → s ≡ getD obus (lastObu p) noObu .size → typeOf h ≡ typeOf (getD obus 0 noObu .header)
+    (obus : List Obu) → s ≡ getD obus (lastObu p) noObu .size → h ≡ getD obus 0 noObu .header
     → paper r ≡ given (byteOf obus p k)
 
 module _ {M : Type 1} (𝓤 : URA M) (H : Heap 𝓤) (A : Atoms 𝓤) (mem : Memory → SProp 𝓤) (run : Routine → Fun 𝓤) where

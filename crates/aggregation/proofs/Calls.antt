@@ -9,9 +9,11 @@ use lib.ListN.{length, getD}
 use borrow.Author.Tests.{le-leb, lt-leb, eqb-false, ltb-false}
 use Rattle.base.specs.Answers.{Answer, given, refused}
 use Rattle.base.proofs.Tests.{split-on}
+use Rattle.obu.specs.Records.{noObu}
 use Rattle.obu.specs.declared.Obu.{Obu}
+use Rattle.packetizer.specs.Records.{noPacket}
 use Rattle.packetizer.specs.declared.PacketMetadata.{PacketMetadata}
-use Rattle.aggregation.specs.Header.{noObu, noPacket, lastObu, lacking, byteOf, headerOf}
+use Rattle.aggregation.specs.Header.{lastObu, lacking, byteOf, headerOf}
 
 -- the OBU of the last element is one of n
 last-there : (n : ℕ) (p : PacketMetadata) → lacking n p ≡ false → lastObu p < n

@@ -1,61 +1,47 @@
 -- The answer of the header call, as the layers above cite it. Assumes nothing.
-use mathlib.Core.Path.{_≡_, sym, ap, ap₂, _∙_}
+use mathlib.Core.Path.{_≡_}
 use Prim.Native.Nat.{ℕ, zero, suc, _+_, _/_, _%_, _≤_, _<_}
 use native.Mathlib.Omega.{arith}
-use mathlib.Core.List.{List, [], _++_, append-nil}
-use lib.ListN.{length, getD, length-append, List·getD-append}
+use mathlib.Core.List.{List, map}
+use lib.ListN.{length, getD, length-map, List·getD-map}
 use borrow.Author.Tests.{lt-leb, le-ltb, ne-eqb}
 use Rattle.base.specs.Answers.{given}
-use Rattle.obu.specs.Unit.{flat}
+use Rattle.obu.specs.Records.{flat, noObu, obusIn}
 use Rattle.obu.specs.declared.Obu.{Obu}
-use Rattle.packetizer.specs.Plan.{flatPlan}
+use Rattle.obu.proofs.Records.{readBack, low-type, obus-flat}
+use Rattle.packetizer.specs.Records.{flatPlan, noPacket, packetsIn}
 use Rattle.packetizer.specs.declared.PacketMetadata.{PacketMetadata}
-use Rattle.aggregation.specs.Header.{noObu, noPacket, lastObu, nOf, byteOf, headerOf}
-use Rattle.aggregation.specs.Flat.{recordsIn, obusIn, packetsIn}
-use Rattle.aggregation.proofs.Flat.{obus-back, packets-back}
+use Rattle.packetizer.proofs.Records.{packets-flat}
+use Rattle.aggregation.specs.Header.{lastObu, nOf, byteOf, headerOf}
 use Rattle.aggregation.proofs.Laws.{byte-z, byte-n}
+
+-- ---- of a record only sizes and types count, which are read back of its numbers
+
+count-back : (os : List Obu) → length (map readBack os) ≡ length os
+count-back os = length-map os readBack
+
+at-back : (os : List Obu) (i : ℕ) → getD (map readBack os) i noObu ≡ readBack (getD os i noObu)
+at-back os i = List·getD-map readBack os i noObu
+
+pub byte-back : (os : List Obu) (p : PacketMetadata) (k : ℕ) → byteOf (map readBack os) p k ≡ byteOf os p k
+unfolding byteOf nOf
+byte-back os p k = rw (at-back os (lastObu p), at-back os 0, low-type (getD os 0 noObu .header))
+
+header-back : (os : List Obu) (ps : List PacketMetadata) (k : ℕ) → headerOf (map readBack os) ps k ≡ headerOf os ps k
+unfolding headerOf
+header-back os ps k = rw (count-back os, byte-back os (getD ps k noPacket) k)
 
 -- the same records give the same answer in both forms
 pub alike : (os : List Obu) (ps : List PacketMetadata) (k : ℕ) → headerOf (obusIn (flat os)) (packetsIn (flatPlan ps)) k ≡ headerOf os ps k
-unfolding recordsIn
-alike os ps k =
-    ap₂ (λ (o : List Obu) (p : List PacketMetadata). headerOf o p k)
-    (ap obusIn (sym (append-nil (flat os))) ∙ obus-back os [] ∙ append-nil os)
-    (ap packetsIn (sym (append-nil (flatPlan ps))) ∙ packets-back ps [] ∙ append-nil ps)
+alike os ps k = rw (obus-flat os, packets-flat ps) (header-back os ps k)
 
 -- record k is there, with elements, and its OBUs are
-module _
-    (os : List Obu)
-    (ps : List PacketMetadata)
-    (k : ℕ)
-    (there : k < length ps)
-    (some : 1 ≤ getD ps k noPacket .«num_obu_elements»)
-    (whole : getD ps k noPacket .«first_obu_index» + getD ps k noPacket .«num_obu_elements» ≤ length os)
-  where
-    pub header-given : headerOf os ps k ≡ given (byteOf os (getD ps k noPacket) k)
-    unfolding headerOf
-    header-given =
-        rw (lt-leb (length ps) k there, ne-eqb (getD ps k noPacket .«num_obu_elements») 0 (λ e. omega arith), le-ltb (length os) _ whole)
-
-    -- further OBU records after these change nothing
-    byte-more : (more : List Obu) → byteOf (os ++ more) (getD ps k noPacket) k ≡ byteOf os (getD ps k noPacket) k
-    unfolding byteOf nOf
-    byte-more more =
-        rw (List·getD-append os more noObu (lastObu (getD ps k noPacket)) (omega arith), List·getD-append os more noObu 0 (omega arith))
-
--- lists that begin with these records, as the plan call leaves them
-pub header-lent : (os : List Obu) (ps : List PacketMetadata) (k : ℕ) → k < length ps → 1 ≤ getD ps k noPacket .«num_obu_elements»
+pub header-given : (os : List Obu) (ps : List PacketMetadata) (k : ℕ) → k < length ps → 1 ≤ getD ps k noPacket .«num_obu_elements»
     → getD ps k noPacket .«first_obu_index» + getD ps k noPacket .«num_obu_elements» ≤ length os
-    → (l m : List ℕ) → headerOf (obusIn (flat os ++ l)) (packetsIn (flatPlan ps ++ m)) k ≡ given (byteOf os (getD ps k noPacket) k)
-header-lent os ps k there some whole l m =
-    let e : getD (ps ++ packetsIn m) k noPacket ≡ getD ps k noPacket = List·getD-append ps (packetsIn m) noPacket k there in
-    rw (
-      obus-back os l,
-      packets-back ps m,
-      header-given (os ++ obusIn l) (ps ++ packetsIn m) k (simp length-append (omega arith)) (rw e some) (simp (e, length-append) (omega arith)),
-      e,
-    )
-    (ap given (byte-more os ps k there some whole (obusIn l)))
+    → headerOf os ps k ≡ given (byteOf os (getD ps k noPacket) k)
+unfolding headerOf
+header-given os ps k there some whole =
+    rw (lt-leb (length ps) k there, ne-eqb (getD ps k noPacket .«num_obu_elements») 0 (λ e. omega arith), le-ltb (length os) _ whole)
 
 -- N stands with Z on no packet of a plan that begins with the start of an OBU
 pub new-starts : (os : List Obu) (ps : List PacketMetadata) (k : ℕ) → getD ps 0 noPacket .«first_obu_offset» ≡ 0

@@ -10,10 +10,11 @@ use lib.Bits.{bitOr}
 use borrow.Author.Tests.{leb-true}
 use Rattle.base.proofs.Tests.{by-cond}
 use Rattle.obu.specs.Header.{typeOf}
+use Rattle.obu.specs.Records.{noObu}
 use Rattle.obu.specs.declared.Obu.{Obu}
 use Rattle.packetizer.specs.Plan.{mostCounted}
 use Rattle.packetizer.specs.declared.PacketMetadata.{PacketMetadata}
-use Rattle.aggregation.specs.Header.{noObu, lastObu, lastStart, zOf, yOf, wOf, nOf, byteOf}
+use Rattle.aggregation.specs.Header.{lastObu, lastStart, zOf, yOf, wOf, nOf, byteOf}
 use Rattle.aggregation.proofs.Bits.{or-sum, below-256, bit-z, bit-y, bits-w, bit-n, low-clear}
 
 pub w-few : (p : PacketMetadata) → wOf p ≤ 3

@@ -1,6 +1,5 @@
 pub mod Rows
 pub mod Bits
-pub mod Flat
 pub mod Calls
 pub mod Laws
 pub mod Headers

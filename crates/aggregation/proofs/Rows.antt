@@ -3,8 +3,10 @@ use mathlib.Core.Path.{_≡_, refl}
 use Prim.Native.Nat.{ℕ}
 use mathlib.Core.List.{List, [], _∷_, map}
 use Rattle.base.specs.Answers.{Answer, given, refused}
+use Rattle.base.specs.Records.{recordsFrom}
+use Rattle.obu.specs.Records.{obusIn}
+use Rattle.packetizer.specs.Records.{packetsIn}
 use Rattle.aggregation.specs.Header.{nOf, byteOf, headerOf}
-use Rattle.aggregation.specs.Flat.{recordsIn, obusIn, packetsIn}
 
 -- of packets 0 to 5
 headers : List ℕ → List ℕ → List (Answer ℕ)
@@ -32,7 +34,7 @@ units :
     ∷ (given 0x00 ∷ none ∷ none ∷ none ∷ none ∷ none ∷ [])
     ∷ (given 0x50 ∷ given 0x90 ∷ none ∷ none ∷ none ∷ none ∷ [])
     ∷ []
-unfolding headers none headerOf byteOf nOf recordsIn
+unfolding headers none headerOf byteOf nOf recordsFrom
 units = refl
 
 -- a header above 255, Z and N both, a sum beyond 32 bits, OBUs beyond the list, no element, an unfinished record
@@ -40,5 +42,5 @@ odd :
     headers (0x10a ∷ 0 ∷ 0 ∷ 0 ∷ 4294967295 ∷ 0x32 ∷ 0 ∷ 0 ∷ 0 ∷ [])
     (0 ∷ 1 ∷ 4294967295 ∷ 4294967295 ∷ 0 ∷ 0 ∷ 2 ∷ 0 ∷ 1 ∷ 1 ∷ 4294967295 ∷ 1 ∷ 0 ∷ 1 ∷ 1 ∷ 0 ∷ 0 ∷ 0 ∷ 1 ∷ 1 ∷ 0 ∷ 1 ∷ 0 ∷ 1 ∷ [])
     ≡ given 0x98 ∷ none ∷ none ∷ none ∷ none ∷ none ∷ []
-unfolding headers none headerOf byteOf nOf recordsIn
+unfolding headers none headerOf byteOf nOf recordsFrom
 odd = refl

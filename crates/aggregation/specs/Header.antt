@@ -6,16 +6,11 @@ use lib.ListN.{length, getD}
 use lib.Dec.{ltb, leb, eqb}
 use Rattle.base.specs.Answers.{Answer, given, refused}
 use Rattle.obu.specs.Header.{typeOf}
+use Rattle.obu.specs.Records.{noObu}
 use Rattle.obu.specs.declared.Obu.{Obu}
-use Rattle.packetizer.specs.Plan.{mostCounted, newPacket}
+use Rattle.packetizer.specs.Plan.{mostCounted}
+use Rattle.packetizer.specs.Records.{noPacket}
 use Rattle.packetizer.specs.declared.PacketMetadata.{PacketMetadata}
-
--- what stands past the end of a list
-abbrev pub noObu : Obu
-noObu = record { header = 0; extension = 0; start = 0; length = 0; size = 0 }
-
-abbrev pub noPacket : PacketMetadata
-noPacket = newPacket 0
 
 -- the OBU of the packet's last element, and where in it that element starts
 abbrev pub lastObu : PacketMetadata → ℕ

@@ -4,16 +4,15 @@ use obu::Obu;
 use packetizer::MAX_NUM_OBUS_TO_OMIT_SIZE;
 use packetizer::PacketMetadata;
 ghost use mathlib.Core.Path.{_≡_};
-ghost use Prim.Native.Nat.{_+_, _*_, _≤_};
+ghost use Prim.Native.Nat.{_*_};
 ghost use mathlib.Core.Bool.{cond};
 ghost use mathlib.Core.List.{List};
-ghost use lib.ListN.{length, getD};
+ghost use lib.ListN.{getD};
 ghost use Rattle.base.specs.Answers.{given};
-ghost use Rattle.obu.specs.Header.{typeOf};
+ghost use Rattle.obu.specs.Records.{noObu, obusIn};
 ghost use Rattle.obu.specs.declared.Obu.{Obu as ObuRecord};
-ghost use Rattle.packetizer.specs.Plan.{planNumbers};
-ghost use Rattle.aggregation.specs.Header.{noObu, noPacket, lastObu, zOf, yOf, wOf, nOf, byteOf, lacking, headerOf};
-ghost use Rattle.aggregation.specs.Flat.{obusIn, packetsIn};
+ghost use Rattle.packetizer.specs.Records.{noPacket, packetsIn};
+ghost use Rattle.aggregation.specs.Header.{lastObu, zOf, yOf, wOf, nOf, byteOf, lacking, headerOf};
 ghost use Rattle.aggregation.specs.Paper.{paper};
 
 // The type of a sequence header.
@@ -61,7 +60,7 @@ fn w_bits(p: PacketMetadata) -> u8
 
 // N: packet 0, and the first OBU is of type 1.
 fn n_bit(first_header: u8, k: usize) -> u8
-    ensures { λ r. ⌜ ((obus : List ObuRecord) → typeOf «first_header» ≡ typeOf (getD obus 0 noObu .header) → r ≡ nOf obus k) ⌝ }
+    ensures { λ r. ⌜ ((obus : List ObuRecord) → «first_header» ≡ getD obus 0 noObu .header → r ≡ nOf obus k) ⌝ }
 {
     if k == 0 {
         if obu::obu_type(first_header) == OBU_TYPE_SEQUENCE_HEADER {
@@ -77,7 +76,7 @@ fn n_bit(first_header: u8, k: usize) -> u8
 // The header of packet k, whose record is p: `size` is that of its last element's OBU, `first_header` is of the list's first OBU.
 fn rule(p: PacketMetadata, size: u32, first_header: u8, k: usize) -> HeaderAnswer
     ensures { λ r. ⌜ ((obus : List ObuRecord) → size ≡ getD obus (lastObu p) noObu .size
-        → typeOf «first_header» ≡ typeOf (getD obus 0 noObu .header) → paper r ≡ given (byteOf obus p k)) ⌝ }
+        → «first_header» ≡ getD obus 0 noObu .header → paper r ≡ given (byteOf obus p k)) ⌝ }
 {
     HeaderAnswer::Header(z_bit(p) | y_bit(p, size) | w_bits(p) | n_bit(first_header, k))
 }
@@ -97,38 +96,34 @@ fn last_of(p: PacketMetadata, n: usize) -> usize
     }
 }
 
-// Record k of a flat plan.
-// Helper: the plan must have a whole record k.
-pub fn packet_at(plan: &[u32], k: usize) -> PacketMetadata
-    requires { ⌜ (k + 1) * planNumbers ≤ length (now plan) ⌝ }
-    ensures { λ r. ⌜ r ≡ getD (packetsIn (now (plan .entry))) k noPacket ⌝ }
-{
-    let at = k * packetizer::PLAN_NUMBERS;
-    PacketMetadata {
-        first_obu_index: plan[at],
-        num_obu_elements: plan[at + 1],
-        first_obu_offset: plan[at + 2],
-        last_obu_size: plan[at + 3],
-        packet_size: plan[at + 4],
-    }
-}
-
-// From flat lists of any numbers: a header may be above 255, and its low byte has the type.
+// From flat lists of any numbers.
 pub fn get_aggregation_header(obus: &[u32], plan: &[u32], k: usize) -> HeaderAnswer
     ensures { λ r. ⌜ paper r ≡ headerOf (obusIn (now (obus .entry))) (packetsIn (now (plan .entry))) k ⌝ }
 {
     if plan.len() / packetizer::PLAN_NUMBERS <= k {
-        return HeaderAnswer::Refused(Refusal::NoSuchPacket);
+        return HeaderAnswer::Refused(Refusal::NoUsablePacket);
     }
-    let p = packet_at(plan, k);
+    let p = packetizer::packet_at(plan, k);
     let n = obus.len() / obu::OBU_NUMBERS;
     let i = last_of(p, n);
     if n <= i {
-        return HeaderAnswer::Refused(Refusal::NoSuchPacket);
+        return HeaderAnswer::Refused(Refusal::NoUsablePacket);
     }
-    let size = obus[i * obu::OBU_NUMBERS + 4];
-    let first_header = (obus[0] & 255) as u8;
-    rule(p, size, first_header, k)
+    let last = obu::obu_at(obus, i);
+    let first = obu::obu_at(obus, 0);
+    rule(p, last.size, first.header, k)
+}
+
+// The header of packet k as a byte, where it is known to have one.
+// Helper: the header call must give a header for packet k, and no refusal.
+pub fn header_byte(obus: &[u32], plan: &[u32], k: usize) -> u8
+    requires { ⌜ headerOf (obusIn (now obus)) (packetsIn (now plan)) k ≡ given (byteOf (obusIn (now obus)) (getD (packetsIn (now plan)) k noPacket) k) ⌝ }
+    ensures { λ r. ⌜ r ≡ byteOf (obusIn (now (obus .entry))) (getD (packetsIn (now (plan .entry))) k noPacket) k ⌝ }
+{
+    match get_aggregation_header(obus, plan, k) {
+        HeaderAnswer::Header(header) => header,
+        HeaderAnswer::Refused(_) => 0,
+    }
 }
 
 // From slices of records, by the same rule.
@@ -136,12 +131,12 @@ pub fn header_of(obus: &[Obu], packets: &[PacketMetadata], k: usize) -> HeaderAn
     ensures { λ r. ⌜ paper r ≡ headerOf (now (obus .entry)) (now (packets .entry)) k ⌝ }
 {
     if packets.len() <= k {
-        return HeaderAnswer::Refused(Refusal::NoSuchPacket);
+        return HeaderAnswer::Refused(Refusal::NoUsablePacket);
     }
     let p = packets[k];
     let i = last_of(p, obus.len());
     if obus.len() <= i {
-        return HeaderAnswer::Refused(Refusal::NoSuchPacket);
+        return HeaderAnswer::Refused(Refusal::NoUsablePacket);
     }
     rule(p, obus[i].size, obus[0].header, k)
 }

@@ -1,16 +1,12 @@
--- What crosses says all, but for what the receive call threw away: 0 is success and nothing else, number and words tell the answers
--- apart, and a state that is handed on is that state. Assumes nothing.
+-- What crosses says all, but for what the receive call threw away: number and words tell the answers apart, and a state that is handed on is that state. Assumes nothing.
 use mathlib.Core.Path.{_≡_, refl, ap, ap₂}
-use Prim.Native.Nat.{ℕ, _≤_, _<_}
+use Prim.Native.Nat.{ℕ, _<_}
 use native.Mathlib.Nat.{mod-eq-of-lt}
 use native.Mathlib.Omega.{arith}
 use mathlib.Core.Bool.{Bool, true, false, cond}
 use mathlib.Core.List.{List, [], _∷_}
 use lib.Dec.{ltb}
 use Rattle.base.specs.Answers.{Answer, given, refused}
-use Rattle.base.specs.Refusals.{numberOf}
-use Rattle.base.specs.declared.Refusal.{Refusal}
-use Rattle.base.specs.declared.Refusal.the-variants.{MtuOverLimit, UnitOverLimit, ExtensionMissing, SizeMissing, SizeUnfinished, SizeTooLarge, PayloadPastUnit, ObuListFull, PlanListFull, OutputFull, NoSuchPacket, StateImpossible, PayloadLength, NotAhead, NewWithContinuation, ElementLengthBad, ElementBad, ObuBroken, FragmentTooLong, OutputTooShort, TrainVersion, TrainCut, RecordTooShort}
 use Rattle.leb128.specs.declared.SizeField.{SizeField}
 use Rattle.packetizer.specs.declared.Planned.{Planned}
 use Rattle.payloader.specs.declared.Payloads.{Payloads}
@@ -22,32 +18,6 @@ use Rattle.av1rtp.specs.Words.{numberIn, wordsIn, Named}
 use Rattle.av1rtp.specs.Calls.{one, plannedWords, payloadsWords, fieldWords, recordWords, stateIn, stateWords}
 
 -- ---- answers
-
--- no refusal has the number 0
-pub never-zero : (r : Refusal) → 1 ≤ numberOf r
-never-zero MtuOverLimit = omega arith
-never-zero UnitOverLimit = omega arith
-never-zero ExtensionMissing = omega arith
-never-zero SizeMissing = omega arith
-never-zero SizeUnfinished = omega arith
-never-zero SizeTooLarge = omega arith
-never-zero PayloadPastUnit = omega arith
-never-zero ObuListFull = omega arith
-never-zero PlanListFull = omega arith
-never-zero OutputFull = omega arith
-never-zero NoSuchPacket = omega arith
-never-zero StateImpossible = omega arith
-never-zero PayloadLength = omega arith
-never-zero NotAhead = omega arith
-never-zero NewWithContinuation = omega arith
-never-zero ElementLengthBad = omega arith
-never-zero ElementBad = omega arith
-never-zero ObuBroken = omega arith
-never-zero FragmentTooLong = omega arith
-never-zero OutputTooShort = omega arith
-never-zero TrainVersion = omega arith
-never-zero TrainCut = omega arith
-never-zero RecordTooShort = omega arith
 
 -- where three words tell what was asked for apart, number and words tell the answers apart
 pub told-apart : {A : Type 0} (three : A → List ℕ) → ((a b : A) → three a ≡ three b → a ≡ b)
@@ -99,4 +69,4 @@ begun-back false = refl
 -- a number of a packet has 16 bits
 pub state-back : (s : State) → s .last < 65536 → stateIn (stateWords s) ≡ s
 state-back s h =
-    ap₂ (λ (t : Bool) (n : ℕ). record { begun = t; last = n; «open» = s .«open» }) (begun-back (s .begun)) (mod-eq-of-lt h)
+    rw (begun-back (s .begun), mod-eq-of-lt h)

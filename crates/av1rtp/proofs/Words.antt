@@ -6,7 +6,7 @@ use mathlib.Core.List.{List, [], _∷_}
 use lib.ListN.{length}
 use Rattle.base.specs.Answers.{Answer, given, refused}
 use Rattle.element.specs.Elements.{chosen}
-use Rattle.element.specs.Paper.{walked}
+use Rattle.element.specs.Paper.{walkedOf, walked}
 use Rattle.element.specs.declared.Part.{Part}
 use Rattle.element.specs.declared.Walked.{Walked}
 use Rattle.av1rtp.specs.Words.{numberIn, wordsIn}
@@ -29,7 +29,7 @@ module _ (k : ℕ) {r : ℕ} {words : List ℕ} where
       → (r ≡ 0) × (words ≡ 0 ∷ w .elements ∷ w .kept .start ∷ w .kept .length ∷ [])
       → (r ≡ numberIn x) × (words ≡ elementWords k x)
   walk-gave (given ps) w e h =
-      let f : w ≡ record { elements = length ps; kept = chosen k (given ps) } = cc in
+      let f : w ≡ walkedOf k ps = cc in
       (h .0, h .1 ∙ ap (λ (v : Walked). 0 ∷ v .elements ∷ v .kept .start ∷ v .kept .length ∷ []) f)
   walk-gave (refused n at) w e h = let z : _≡_ {A = ℕ} 0 1 = cc in absurd (omega arith)
 

@@ -1,4 +1,4 @@
--- How an answer crosses to C and Rust: its number, and four words (W14, A3).
+-- How an answer crosses to C and Rust: its number, and four words (W14, K3).
 use Prim.Native.Nat.{ℕ, _≤_}
 use mathlib.Core.List.{List, [], _∷_}
 use Rattle.base.specs.Answers.{Answer, given, refused}

@@ -17,15 +17,16 @@ ghost use lib.ListN.{drop};
 ghost use Rattle.base.specs.Refusals.{numberOf};
 ghost use Rattle.leb128.specs.Field.{sizeField};
 ghost use Rattle.obu.specs.Unit.{listAnswer, listAfter};
-ghost use Rattle.packetizer.specs.Call.{planAnswer, obusAfter, planAfter};
+ghost use Rattle.obu.specs.Records.{obusIn};
+ghost use Rattle.packetizer.specs.Call.{toPlan, planUnit};
+ghost use Rattle.packetizer.specs.Records.{packetsIn};
 ghost use Rattle.aggregation.specs.Header.{headerOf};
-ghost use Rattle.aggregation.specs.Flat.{obusIn, packetsIn};
-ghost use Rattle.payloader.specs.Call.{payloadAnswer, outAfter};
+ghost use Rattle.payloader.specs.Call.{toWrite, writeUnit};
 ghost use Rattle.element.specs.Elements.{payloadElements, elementOf};
-ghost use Rattle.receiver.specs.Call.{receiveAnswer, storeAfter, outputAfter};
-ghost use Rattle.train.specs.Train.{lengthWidth, headOf, frontOf, headBytes};
+ghost use Rattle.receiver.specs.Call.{inputs, received};
+ghost use Rattle.train.specs.Train.{lengthWidth, headOf, frontOf, recordFields};
 ghost use Rattle.av1rtp.specs.Words.{numberIn, wordsIn};
-ghost use Rattle.av1rtp.specs.Calls.{one, plannedWords, payloadsWords, fieldAnswer, fieldWords, elementCount, stateIn, stateWords, stateAfter, receivedWords, recordAnswer, recordWords};
+ghost use Rattle.av1rtp.specs.Calls.{one, listedWords, PlanCrosses, PayloadCrosses, fieldAnswer, fieldWords, elementCount, stateIn, stateWords, Crosses, headWords, recordAnswer, recordWords};
 
 // What was asked for: success, and up to three numbers.
 fn give(answer: &mut [usize; 4], a: usize, b: usize, c: usize) -> u32
@@ -47,7 +48,7 @@ fn refuse(answer: &mut [usize; 4], refusal: Refusal, at: usize) -> u32
 #[no_mangle]
 pub extern "C" fn av1rtp_list(unit: &[u8], obus: &mut [u32], answer: &mut [usize; 4]) -> u32
     ensures { λ r. ⌜ (r ≡ numberIn (listAnswer (now (unit .entry)) (now (obus .entry))))
-        × (now (answer .exit) ≡ wordsIn one (listAnswer (now (unit .entry)) (now (obus .entry))))
+        × (now (answer .exit) ≡ wordsIn listedWords (listAnswer (now (unit .entry)) (now (obus .entry))))
         × (now (obus .exit) ≡ listAfter (now (unit .entry)) (now (obus .entry))) ⌝ }
 {
     match obu::parse_obus(unit, obus) {
@@ -65,10 +66,8 @@ pub extern "C" fn av1rtp_plan(
     plan: &mut [u32],
     answer: &mut [usize; 4],
 ) -> u32
-    ensures { λ r. ⌜ (r ≡ numberIn (planAnswer mtu (now (unit .entry)) (now (obus .entry)) (now (plan .entry))))
-        × (now (answer .exit) ≡ wordsIn plannedWords (planAnswer mtu (now (unit .entry)) (now (obus .entry)) (now (plan .entry))))
-        × (now (obus .exit) ≡ obusAfter mtu (now (unit .entry)) (now (obus .entry)))
-        × (now (plan .exit) ≡ planAfter mtu (now (unit .entry)) (now (obus .entry)) (now (plan .entry))) ⌝ }
+    ensures { λ r. ⌜ PlanCrosses (planUnit (toPlan mtu (now (unit .entry)) (now (obus .entry)) (now (plan .entry))))
+        r (now (answer .exit)) (now (obus .exit)) (now (plan .exit)) ⌝ }
 {
     match packetizer::plan_unit(mtu, unit, obus, plan) {
         PlanAnswer::Planned(planned) => give(answer, planned.obus, planned.packets, 0),
@@ -86,11 +85,8 @@ pub extern "C" fn av1rtp_payload(
     out: &mut [u8],
     answer: &mut [usize; 4],
 ) -> u32
-    ensures { λ r. ⌜ (r ≡ numberIn (payloadAnswer mtu (now (unit .entry)) (now (obus .entry)) (now (plan .entry)) (now (out .entry))))
-        × (now (answer .exit) ≡ wordsIn payloadsWords (payloadAnswer mtu (now (unit .entry)) (now (obus .entry)) (now (plan .entry)) (now (out .entry))))
-        × (now (obus .exit) ≡ obusAfter mtu (now (unit .entry)) (now (obus .entry)))
-        × (now (plan .exit) ≡ planAfter mtu (now (unit .entry)) (now (obus .entry)) (now (plan .entry)))
-        × (now (out .exit) ≡ outAfter mtu (now (unit .entry)) (now (obus .entry)) (now (plan .entry)) (now (out .entry))) ⌝ }
+    ensures { λ r. ⌜ PayloadCrosses (writeUnit (toWrite mtu (now (unit .entry)) (now (obus .entry)) (now (plan .entry)) (now (out .entry))))
+        r (now (answer .exit)) (now (obus .exit)) (now (plan .exit)) (now (out .exit)) ⌝ }
 {
     match payloader::payload(mtu, unit, obus, plan, out) {
         PayloadAnswer::Written(written) => {
@@ -161,11 +157,8 @@ pub extern "C" fn av1rtp_receive(
     out: &mut [u8],
     answer: &mut [usize; 4],
 ) -> u32
-    ensures { λ r. ⌜ (r ≡ numberIn (receiveAnswer (stateIn (now (state .entry))) number (now (payload .entry)) (now (store .entry)) (now (out .entry))))
-        × (now (answer .exit) ≡ wordsIn receivedWords (receiveAnswer (stateIn (now (state .entry))) number (now (payload .entry)) (now (store .entry)) (now (out .entry))))
-        × (now (state .exit) ≡ stateAfter (receiveAnswer (stateIn (now (state .entry))) number (now (payload .entry)) (now (store .entry)) (now (out .entry))) (now (state .entry)))
-        × (now (store .exit) ≡ storeAfter (stateIn (now (state .entry))) number (now (payload .entry)) (now (store .entry)) (now (out .entry)))
-        × (now (out .exit) ≡ outputAfter (stateIn (now (state .entry))) number (now (payload .entry)) (now (store .entry)) (now (out .entry))) ⌝ }
+    ensures { λ r. ⌜ Crosses (received (inputs (stateIn (now (state .entry))) number (now (payload .entry)) (now (store .entry)) (now (out .entry)))) (now (state .entry))
+        r (now (answer .exit)) (now (state .exit)) (now (store .exit)) (now (out .exit)) ⌝ }
 {
     let before = state_in(state[0], state[1], state[2]);
     match receiver::receive(before, number, payload, store, out) {
@@ -181,7 +174,7 @@ pub extern "C" fn av1rtp_receive(
 // The head of a train. Words: 0, its version.
 #[no_mangle]
 pub extern "C" fn av1rtp_train_head(bytes: &[u8], answer: &mut [usize; 4]) -> u32
-    ensures { λ r. ⌜ (r ≡ numberIn (headOf (now (bytes .entry)))) × (now (answer .exit) ≡ wordsIn one (headOf (now (bytes .entry)))) ⌝ }
+    ensures { λ r. ⌜ (r ≡ numberIn (headOf (now (bytes .entry)))) × (now (answer .exit) ≡ wordsIn headWords (headOf (now (bytes .entry)))) ⌝ }
 {
     match train::read_head(bytes) {
         HeadRead::Train(head) => give(answer, head.version as usize, 0, 0),
@@ -195,7 +188,7 @@ pub extern "C" fn av1rtp_train_record(bytes: &[u8], at: usize, answer: &mut [usi
     ensures { λ r. ⌜ (r ≡ numberIn (recordAnswer (frontOf lengthWidth at (drop at (now (bytes .entry))))))
         × (now (answer .exit) ≡ wordsIn recordWords (recordAnswer (frontOf lengthWidth at (drop at (now (bytes .entry)))))) ⌝ }
 {
-    match train::read_record(bytes, at) {
+    match train::read_record(bytes, train::LENGTH_WIDTH, at) {
         RecordRead::Found(head) => give(answer, head.number as usize, head.start, head.length),
         RecordRead::End => give(answer, 0, 0, 0),
         RecordRead::Refused(refusal) => refuse(answer, refusal, 0),
@@ -206,7 +199,7 @@ pub extern "C" fn av1rtp_train_record(bytes: &[u8], at: usize, answer: &mut [usi
 // written, 0 to 2 too, though no reader takes such a record (R23).
 #[no_mangle]
 pub extern "C" fn av1rtp_train_record_head(stated: u16, number: u16, head: &mut [u8; 4])
-    ensures { λ _. ⌜ now (head .exit) ≡ headBytes lengthWidth stated number ⌝ }
+    ensures { λ _. ⌜ now (head .exit) ≡ recordFields lengthWidth stated number ⌝ }
 {
     *head = train::record_head(stated, number);
 }

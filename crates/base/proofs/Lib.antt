@@ -3,4 +3,8 @@ pub mod Refusals
 pub mod Tests
 pub mod Bits
 pub mod Lists
+pub mod Storing
+pub mod Records
 pub mod Words
+pub mod BigEndian
+pub mod Streams

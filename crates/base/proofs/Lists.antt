@@ -10,7 +10,7 @@ use lib.ListN.{length, getD, take, drop, set, length-append, length-take, length
 use lib.Seq.{take-nil, take-all, take-suc, take-add, length-take-le, getD-drop, take-at, drop-append-add, drop-drop, sets, sets-eq}
 use lib.Dec.{ltb}
 use borrow.Author.Tests.{ltb-true, ltb-false, lt-ltb, le-ltb}
-use Rattle.base.specs.Lists.{replaced, front, keep, All, Put}
+use Rattle.base.specs.Lists.{replaced, front, keep, All, Prefix, Put}
 use Rattle.base.proofs.Tests.{by-cond, split-on}
 
 module _ {A : Type 0} where
@@ -101,11 +101,20 @@ module _ {A : Type 0} where
       let k : length (front a l) ≡ length l = length-append a (drop (length a) l) ∙ omega (arith, length-drop (length a) l) in
       sets-eq b (front a l) at (omega arith) ∙ ap (λ (n : ℕ). replaced (front a l) n b) (sym e) ∙ front-more a b l
 
+  -- none are the first of any
+  pub prefix-none : (l : List A) → Prefix [] l
+  prefix-none l = record { rest = l; is = refl }
+
   -- ---- each of a list
 
   pub all-map : {P Q : A → Type 0} → ((a : A) → P a → Q a) → (l : List A) → All P l → All Q l
   all-map f [] h = tt
   all-map f (a ∷ l) h = (f a (h .0), all-map f l (h .1))
+
+  -- from the element at every place
+  pub all-at : (P : A → Type 0) (d : A) (l : List A) → ((i : ℕ) → P (getD l i d)) → All P l
+  all-at P d [] h = tt
+  all-at P d (a ∷ l) h = (h 0, all-at P d l (λ i. h (suc i)))
 
   pub all-append : (P : A → Type 0) (l m : List A) → All P l → All P m → All P (l ++ m)
   all-append P [] m h i = i

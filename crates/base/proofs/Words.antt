@@ -1,5 +1,5 @@
 -- A line of a text, byte by byte, and how long the words of a refusal are. Assumes nothing.
-use mathlib.Core.Path.{_≡_, refl, sym, ap, _∙_}
+use mathlib.Core.Path.{_≡_, refl, sym, ap, subst, _∙_}
 use Prim.Native.Nat.{ℕ, zero, suc, _+_, _≤_, _<_}
 use native.Mathlib.Nat.{add-zero, zero-add}
 use native.Mathlib.Numerals.{add-one}
@@ -7,71 +7,66 @@ use native.Mathlib.Omega.{arith}
 use Prim.Native.String as string
 use mathlib.Core.List.{List, [], _∷_, _++_}
 use mathlib.Core.Bool.{Bool, true, false, not, _&&_, false≢true}
-use lib.ListN.{length, getD, drop, set, length-set}
-use lib.Seq.{sets, drop-cons, drop-length}
+use lib.ListN.{length, getD, drop, set}
+use lib.Seq.{drop-cons, drop-length}
 use lib.Dec.{eqb}
 use borrow.Author.Tests.{eq-eqb, ne-eqb}
 use Rattle.base.specs.Lists.{Put}
 use Rattle.base.specs.Words.{ascii, words, wordsOf, wordsMost}
 use Rattle.base.specs.Inside.{lines, lineFrom}
 use Rattle.base.proofs.Tests.{by-cond}
+use Rattle.base.proofs.Storing.{Storing, storing-first, storing-next, storing-done}
 
--- i bytes of a text were looked at, and what is still to be stored of line n completes what is asked for
-pub record Storing (n : ℕ) (text l₀ : List ℕ) (at i line to : ℕ) (l : List ℕ) : Type 0 where
+-- i bytes of a text were looked at, and what of line n comes after them is left to be stored
+pub record Looking (n : ℕ) (text l₀ : List ℕ) (at i line to : ℕ) (l : List ℕ) : Type 0 where
   pub looked : i ≤ length text
   pub line-within : line ≤ i
   pub to-within : to ≤ at + i
-  pub same : length l ≡ length l₀
-  pub ends : to + length (lineFrom n line (drop i text)) ≡ at + length (lineFrom n 0 text)
-  pub rest : sets l to (lineFrom n line (drop i text)) ≡ sets l₀ at (lineFrom n 0 text)
+  pub storing : Storing l₀ at (lineFrom n 0 text) l to (lineFrom n line (drop i text))
 
-module _ {n : ℕ} {text l₀ : List ℕ} {at i line to : ℕ} {l : List ℕ} (s : Storing n text l₀ at i line to l) (more : i < length text) where
+pub looking-first : (n : ℕ) (text l : List ℕ) (at : ℕ) → Looking n text l at 0 0 at l
+looking-first n text l at = record { looked = omega arith; line-within = omega arith; to-within = omega arith; storing = storing-first l at (lineFrom n 0 text) }
+
+module _ {n : ℕ} {text l₀ : List ℕ} {at i line to : ℕ} {l : List ℕ} (s : Looking n text l₀ at i line to l) (more : i < length text) where
   abbrev byte : ℕ
   byte = getD text i 0
 
-  next : drop i text ≡ byte ∷ drop (i + 1) text
-  next = rw add-one (drop-cons text i 0 more)
+  abbrev left : List ℕ
+  left = drop (i + 1) text
 
-  after : (line′ to′ : ℕ) (l′ : List ℕ) → line′ ≤ i + 1 → to′ ≤ at + (i + 1) → length l′ ≡ length l
-      → to + length (lineFrom n line (byte ∷ drop (i + 1) text)) ≡ to′ + length (lineFrom n line′ (drop (i + 1) text))
-      → sets l to (lineFrom n line (byte ∷ drop (i + 1) text)) ≡ sets l′ to′ (lineFrom n line′ (drop (i + 1) text))
-      → Storing n text l₀ at (i + 1) line′ to′ l′
-  after line′ to′ l′ a b k e r =
-      record {
-        looked = omega arith;
-        line-within = a;
-        to-within = b;
-        same = k ∙ s .same;
-        ends = sym e ∙ ap (λ (x : List ℕ). to + length (lineFrom n line x)) (sym next) ∙ s .ends;
-        rest = sym r ∙ ap (λ (x : List ℕ). sets l to (lineFrom n line x)) (sym next) ∙ s .rest;
-      }
+  here : Storing l₀ at (lineFrom n 0 text) l to (lineFrom n line (byte ∷ left))
+  here =
+      let e : drop i text ≡ byte ∷ left = rw add-one (drop-cons text i 0 more) in
+      subst (λ (x : List ℕ). Storing l₀ at (lineFrom n 0 text) l to (lineFrom n line x)) e (s .storing)
 
-  pub line-passed : byte ≡ 10 → Storing n text l₀ at (i + 1) (line + 1) to l
+  pub line-passed : byte ≡ 10 → Looking n text l₀ at (i + 1) (line + 1) to l
   unfolding lineFrom
-  line-passed e = after (line + 1) to l (omega (arith, s .line-within)) (omega (arith, s .to-within)) refl (rw (eq-eqb byte 10 e)) (rw (eq-eqb byte 10 e))
+  line-passed e = record { looked = omega arith; line-within = omega arith; to-within = omega arith; storing = rw (eq-eqb byte 10 e) at here }
 
-  pub byte-stored : (byte ≡ 10 → ⊥) → line ≡ n → Storing n text l₀ at (i + 1) line (to + 1) (set l to byte)
+  pub byte-stored : (byte ≡ 10 → ⊥) → line ≡ n → Looking n text l₀ at (i + 1) line (to + 1) (set l to byte)
   unfolding lineFrom
   byte-stored e f =
-      after line (to + 1) (set l to byte) (omega (arith, s .line-within)) (omega (arith, s .to-within)) (simp length-set)
-      (rw (ne-eqb byte 10 e, eq-eqb line n f) (omega arith)) (rw (ne-eqb byte 10 e, eq-eqb line n f, add-one to))
+      record {
+        looked = omega arith;
+        line-within = omega arith;
+        to-within = omega arith;
+        storing =
+            storing-next (byte ∷ []) (lineFrom n line left) (rw (ne-eqb byte 10 e, eq-eqb line n f) at here)
+            (record { cursor = omega arith; stored = refl });
+      }
 
-  pub byte-passed : (byte ≡ 10 → ⊥) → (line ≡ n → ⊥) → Storing n text l₀ at (i + 1) line to l
+  pub byte-passed : (byte ≡ 10 → ⊥) → (line ≡ n → ⊥) → Looking n text l₀ at (i + 1) line to l
   unfolding lineFrom
   byte-passed e f =
-      after line to l (omega (arith, s .line-within)) (omega (arith, s .to-within)) refl
-      (rw (ne-eqb byte 10 e, ne-eqb line n f)) (rw (ne-eqb byte 10 e, ne-eqb line n f))
+      record { looked = omega arith; line-within = omega arith; to-within = omega arith; storing = rw (ne-eqb byte 10 e, ne-eqb line n f) at here }
 
 -- the whole text was looked at
-pub stored : {n : ℕ} {text l₀ : List ℕ} {at i line to : ℕ} {l : List ℕ} → Storing n text l₀ at i line to l → i ≡ length text
+pub stored : {n : ℕ} {text l₀ : List ℕ} {at i line to : ℕ} {l : List ℕ} → Looking n text l₀ at i line to l → i ≡ length text
     → Put l₀ l at to (lineFrom n 0 text)
 unfolding lineFrom
 stored {n} {text} {l₀} {at} {i} {line} {to} {l} s e =
     let none : drop i text ≡ [] = rw e (drop-length text) in
-    record {
-      cursor = omega (arith, ap (λ (x : List ℕ). to + length (lineFrom n line x)) (sym none) ∙ s .ends);
-      stored = ap (λ (x : List ℕ). sets l to (lineFrom n line x)) (sym none) ∙ s .rest;
-    }
+    storing-done (subst (λ (x : List ℕ). Storing l₀ at (lineFrom n 0 text) l to (lineFrom n line x)) none (s .storing))
 
 -- ---- a line is no longer than its text
 

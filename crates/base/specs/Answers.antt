@@ -12,3 +12,8 @@ pub data Answer (A : Type 0) : Type 0 where
 abbrev pub stored : {A : Type 0} → Answer A → List ℕ → List ℕ → List ℕ
 stored (given a) new l = front new l
 stored (refused n at) new l = l
+
+-- what was asked for is given
+abbrev pub Given : {A : Type 0} → Answer A → Type 0
+Given (given a) = Unit {0}
+Given (refused n at) = ⊥

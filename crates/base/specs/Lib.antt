@@ -3,3 +3,7 @@ pub mod Words
 pub mod Inside
 pub mod Answers
 pub mod Lists
+pub mod BigEndian
+pub mod Records
+pub mod Numbers
+pub mod Streams

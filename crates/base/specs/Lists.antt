@@ -1,6 +1,6 @@
 -- Lists: what a store leaves, and what is kept of a list.
 use Prim.Native.Nat.{ℕ, _+_}
-use mathlib.Core.List.{List, [], _∷_, _++_}
+use mathlib.Core.List.{List, [], _∷_, _++_, flatMap}
 use mathlib.Core.Bool.{Bool, cond}
 use mathlib.Core.Path.{_≡_}
 use lib.ListN.{length, take, drop}
@@ -20,10 +20,19 @@ module _ {A : Type 0} where
   keep test [] = []
   keep test (a ∷ l) = cond (test a) (a ∷ keep test l) (keep test l)
 
+  -- the lists of a list, one after the other
+  abbrev pub joined : List (List A) → List A
+  joined ls = flatMap (λ (l : List A). l) ls
+
   -- each of a list is so
   abbrev pub All : (A → Type 0) → List A → Type 0
   All P [] = Unit {0}
   All P (a ∷ l) = P a × All P l
+
+  -- the first of others
+  pub record Prefix (a b : List A) : Type 0 where
+    pub rest : List A
+    pub is : b ≡ a ++ rest
 
 -- a text is stored from the cursor `at` on, and `end` is the cursor after it
 pub record Put (l l′ : List ℕ) (at end : ℕ) (text : List ℕ) : Type 0 where

@@ -1,4 +1,4 @@
--- The words of each refusal, R1 to R23, which stand behind its number on standard error (G7).
+-- The words of each refusal, which stand behind its number on standard error (G7).
 use Prim.Native.Nat.{ℕ}
 use Prim.Native.Char.{code}
 use Prim.Native.String as string
@@ -37,6 +37,23 @@ words =
     ∷ "no train of a known version"
     ∷ "the train ends inside a record"
     ∷ "a record's length is below 3"
+    ∷ "the RTP header is cut short"
+    ∷ "the header extension is cut short"
+    ∷ "an extension element runs past its block"
+    ∷ "a header field is out of range"
+    ∷ "the buffer or a list is too short for the header"
+    ∷ "a size does not end within its outer one"
+    ∷ "an OBU length is 0 or a size runs past its outer one"
+    ∷ "the list or the plan is not that of this unit"
+    ∷ "a sum is over its limit"
+    ∷ "the mtu is too small for an RTP header"
+    ∷ "the time is out of range"
+    ∷ "the ends of frame units are not those of OBUs"
+    ∷ "Z is set and nothing is open in step"
+    ∷ "Z is clear and an element is open in step"
+    ∷ "a finished OBU has its size bit set"
+    ∷ "an element's length field is padded"
+    ∷ "a finished OBU is of a dropped type"
     ∷ []
 
 -- the words of a number; none, where no refusal has it
@@ -45,4 +62,4 @@ wordsOf n = ascii (getD words n "")
 
 -- the bytes of all words: more than those of one refusal
 abbrev pub wordsMost : ℕ
-wordsMost = 766
+wordsMost = 1410

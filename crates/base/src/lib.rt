@@ -1,8 +1,9 @@
-// What every other crate stands on: the refusals R1 to R23 by name, with their numbers and words, a record of five numbers stored in
-// a lent flat list, the smaller of two numbers, and bytes copied.
+// What every other crate stands on: the refusals by name, with their numbers and words, numbers stored in a lent flat list, the smaller
+// of two numbers, and bytes copied.
+pub mod big_endian;
+
 ghost use mathlib.Core.Path.{_≡_};
 ghost use Prim.Native.Nat.{_+_, _≤_, min};
-ghost use mathlib.Core.List.{[], _∷_};
 ghost use lib.ListN.{length, take, drop};
 ghost use lib.Seq.{sets};
 ghost use Rattle.base.specs.Lists.{Put};
@@ -20,8 +21,8 @@ pub enum Refusal {
     PayloadPastUnit,
     ObuListFull,
     PlanListFull,
-    OutputFull,
-    NoSuchPacket,
+    NoRoomForPayloads,
+    NoUsablePacket,
     StateImpossible,
     PayloadLength,
     NotAhead,
@@ -30,10 +31,27 @@ pub enum Refusal {
     ElementBad,
     ObuBroken,
     FragmentTooLong,
-    OutputTooShort,
+    NoRoomForObus,
     TrainVersion,
     TrainCut,
     RecordTooShort,
+    HeaderShort,
+    ExtensionShort,
+    ExtensionElementPastBlock,
+    FieldOutOfRange,
+    HeaderSpaceShort,
+    NestedSizeUnreadable,
+    NestedSizeMisfit,
+    ListsDiffer,
+    SumTooLarge,
+    MtuBelowHeader,
+    TimeOutOfRange,
+    FrameEndsWrong,
+    ContinuesNothing,
+    OpenNotContinued,
+    SizeBitSent,
+    ElementLengthPadded,
+    DroppedTypeSent,
 }
 
 // The number of a refusal, by the one definition that contracts cite.
@@ -50,8 +68,8 @@ pub fn number(refusal: Refusal) -> u32
         Refusal::PayloadPastUnit => 7,
         Refusal::ObuListFull => 8,
         Refusal::PlanListFull => 9,
-        Refusal::OutputFull => 10,
-        Refusal::NoSuchPacket => 11,
+        Refusal::NoRoomForPayloads => 10,
+        Refusal::NoUsablePacket => 11,
         Refusal::StateImpossible => 12,
         Refusal::PayloadLength => 13,
         Refusal::NotAhead => 14,
@@ -60,24 +78,41 @@ pub fn number(refusal: Refusal) -> u32
         Refusal::ElementBad => 17,
         Refusal::ObuBroken => 18,
         Refusal::FragmentTooLong => 19,
-        Refusal::OutputTooShort => 20,
+        Refusal::NoRoomForObus => 20,
         Refusal::TrainVersion => 21,
         Refusal::TrainCut => 22,
         Refusal::RecordTooShort => 23,
+        Refusal::HeaderShort => 24,
+        Refusal::ExtensionShort => 25,
+        Refusal::ExtensionElementPastBlock => 26,
+        Refusal::FieldOutOfRange => 27,
+        Refusal::HeaderSpaceShort => 28,
+        Refusal::NestedSizeUnreadable => 29,
+        Refusal::NestedSizeMisfit => 30,
+        Refusal::ListsDiffer => 31,
+        Refusal::SumTooLarge => 32,
+        Refusal::MtuBelowHeader => 33,
+        Refusal::TimeOutOfRange => 34,
+        Refusal::FrameEndsWrong => 35,
+        Refusal::ContinuesNothing => 36,
+        Refusal::OpenNotContinued => 37,
+        Refusal::SizeBitSent => 38,
+        Refusal::ElementLengthPadded => 39,
+        Refusal::DroppedTypeSent => 40,
     }
 }
 
-// Stores five numbers of a flat list from place `at` on.
-// Helper: the list must have these five places.
-pub fn put_five(list: &mut [u32], at: usize, a: u32, b: u32, c: u32, d: u32, e: u32)
-    requires { ⌜ at + 5 ≤ length (now list) ⌝ }
-    ensures { λ _. ⌜ now (list .exit) ≡ sets (now (list .entry)) at (a ∷ b ∷ c ∷ d ∷ e ∷ []) ⌝ }
+// Stores numbers in a flat list from place `at` on.
+// Helper: the list must have these places.
+pub fn put_numbers(list: &mut [u32], at: usize, numbers: &[u32])
+    requires { ⌜ at + length (now numbers) ≤ length (now list) ⌝ }
+    ensures { λ _. ⌜ now (list .exit) ≡ sets (now (list .entry)) at (now (numbers .entry)) ⌝ }
 {
-    list[at] = a;
-    list[at + 1] = b;
-    list[at + 2] = c;
-    list[at + 3] = d;
-    list[at + 4] = e;
+    let mut i: usize = 0;
+    while i < numbers.len() {
+        list[at + i] = numbers[i];
+        i += 1;
+    }
 }
 
 // The smaller of two numbers.
@@ -138,7 +173,7 @@ pub fn put_text(text: &[u8], out: &mut [u8], at: usize) -> usize
 }
 
 // The words of the refusals, a line each; line 0 is nobody's.
-const WORDS: [u8; 766] = *b"\n\
+const WORDS: [u8; 1410] = *b"\n\
     the mtu is over its limit\n\
     the unit is over its limit\n\
     an OBU's extension byte is missing\n\
@@ -161,7 +196,24 @@ const WORDS: [u8; 766] = *b"\n\
     the output is too short for the OBUs\n\
     no train of a known version\n\
     the train ends inside a record\n\
-    a record's length is below 3\n";
+    a record's length is below 3\n\
+    the RTP header is cut short\n\
+    the header extension is cut short\n\
+    an extension element runs past its block\n\
+    a header field is out of range\n\
+    the buffer or a list is too short for the header\n\
+    a size does not end within its outer one\n\
+    an OBU length is 0 or a size runs past its outer one\n\
+    the list or the plan is not that of this unit\n\
+    a sum is over its limit\n\
+    the mtu is too small for an RTP header\n\
+    the time is out of range\n\
+    the ends of frame units are not those of OBUs\n\
+    Z is set and nothing is open in step\n\
+    Z is clear and an element is open in step\n\
+    a finished OBU has its size bit set\n\
+    an element's length field is padded\n\
+    a finished OBU is of a dropped type\n";
 
 // Line n of a text at the cursor `at`, and the cursor after it.
 fn put_line_of(text: &[u8], n: u32, out: &mut [u8], at: usize) -> usize
@@ -185,7 +237,7 @@ fn put_line_of(text: &[u8], n: u32, out: &mut [u8], at: usize) -> usize
 }
 
 // The words of a refusal, by its number, at the cursor `at`, and the cursor after them; none for a number that no refusal has.
-// Helper: `out` must have space for 766 bytes, those of all words together.
+// Helper: `out` must have space for 1,410 bytes, those of all words together.
 pub fn put_words(number: u32, out: &mut [u8], at: usize) -> usize
     requires { ⌜ at + wordsMost ≤ length (now out) ⌝ }
     ensures { λ r. ⌜ Put (now (out .entry)) (now (out .exit)) at r (wordsOf number) ⌝ }

@@ -1,11 +1,12 @@
 -- How answers and states cross to C and Rust.
+use Rattle.base.proofs.Refusals as refusals
 use Rattle.av1rtp.specs.Calls as border
 use Rattle.av1rtp.proofs.Laws as laws
 use Rattle.claims.specs.Answers.{TellsApart}
 use Rattle.claims.specs.Border.{NeverZero, ToldApart, StateFresh, StateBack}
 
 pub never-zero : NeverZero
-never-zero = laws.never-zero
+never-zero = refusals.never-zero
 
 pub told-apart : ToldApart
 told-apart = λ A. laws.told-apart

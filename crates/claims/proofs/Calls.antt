@@ -1,4 +1,4 @@
--- Every public call has no `requires`, and its contract leaves one outcome (A1, A2); so has what each program begins with.
+-- Every public call has no `requires`, and its contract leaves one outcome (K1, K2); so has what each program begins with.
 use Rattle.settled.specs.Settled.{Settled, SettledBy, SamePart}
 use Rattle.leb128.proofs.read_leb128 as readLeb128
 use Rattle.obu.proofs.parse_obus as parseObus

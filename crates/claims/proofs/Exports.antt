@@ -1,4 +1,4 @@
--- Every export of the static library has no `requires`, and its contract leaves one outcome (A1, A2).
+-- Every export of the static library has no `requires`, and its contract leaves one outcome (K1, K2).
 use Rattle.settled.specs.Settled.{Settled}
 use Rattle.av1rtp.proofs.av1rtp_size_field as sizeField
 use Rattle.av1rtp.proofs.av1rtp_list as list

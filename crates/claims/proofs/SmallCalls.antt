@@ -1,4 +1,4 @@
--- The same of the small public calls (A1, A2).
+-- The same of the small public calls (K1, K2).
 use Rattle.settled.specs.Settled.{Settled}
 use Rattle.base.proofs.number as number
 use Rattle.base.proofs.smaller as smaller

@@ -1,7 +1,8 @@
--- How answers and states cross to C and Rust (W14, A3, V1).
+-- How answers and states cross to C and Rust (W14, K3, V1).
 use mathlib.Core.Path.{_≡_}
 use Prim.Native.Nat.{ℕ, _≤_, _<_}
 use mathlib.Core.List.{List, [], _∷_}
+use Rattle.base.specs.Numbers.{packetNumbers}
 use Rattle.base.specs.Answers.{Answer}
 use Rattle.base.specs.Refusals.{numberOf}
 use Rattle.base.specs.declared.Refusal.{Refusal}
@@ -27,4 +28,4 @@ abbrev pub StateFresh : Type 0
 StateFresh = stateIn (0 ∷ 0 ∷ 0 ∷ []) ≡ stateOf fresh
 
 abbrev pub StateBack : Type 0
-StateBack = (s : State) → s .last < 65536 → stateIn (stateWords s) ≡ s
+StateBack = (s : State) → s .last < packetNumbers → stateIn (stateWords s) ≡ s

@@ -6,12 +6,11 @@ use mathlib.Core.Bool.{cond, _&&_}
 use lib.ListN.{getD}
 use lib.Dec.{ltb, eqb}
 use Rattle.obu.specs.Header.{typeOf}
-use Rattle.obu.specs.Unit.{flat}
+use Rattle.obu.specs.Records.{flat, noObu, obusIn}
 use Rattle.obu.specs.declared.Obu.{Obu}
-use Rattle.packetizer.specs.Plan.{flatPlan}
+use Rattle.packetizer.specs.Records.{flatPlan, packetsIn}
 use Rattle.packetizer.specs.declared.PacketMetadata.{PacketMetadata}
-use Rattle.aggregation.specs.Header.{noObu, lastObu, lastStart, wOf, byteOf, headerOf}
-use Rattle.aggregation.specs.Flat.{obusIn, packetsIn}
+use Rattle.aggregation.specs.Header.{lastObu, lastStart, wOf, byteOf, headerOf}
 use Rattle.aggregation.specs.Paper.{paper}
 use Rattle.aggregation.specs.declared.HeaderAnswer.{HeaderAnswer}
 

@@ -21,10 +21,10 @@ FrontSpans = (l : List ℕ) → Spans l (frontOf l)
 abbrev pub ScanFound : Type 0
 ScanFound =
     (l : List ℕ) (at : ℕ) (f : Front) → found f ≡ frontOf l → 1 ≤ length l
-    → scanFrom l 0 at
+    → scanFrom l at
     ≡ record {
-      obus = placed at f ∷ scanFrom (drop (spanOf f) l) 0 (at + spanOf f) .obus;
-      stop = scanFrom (drop (spanOf f) l) 0 (at + spanOf f) .stop;
+      items = placed at f ∷ scanFrom (drop (spanOf f) l) (at + spanOf f) .items;
+      stop = scanFrom (drop (spanOf f) l) (at + spanOf f) .stop;
     }
 
 -- O6, O7: every kept OBU lies in its unit; its size is 1 to the unit's length

@@ -3,12 +3,13 @@ use mathlib.Core.Path.{_≡_}
 use Prim.Native.Nat.{ℕ, _+_, _≤_, _<_}
 use mathlib.Core.List.{List, []}
 use lib.ListN.{length, getD}
+use Rattle.base.specs.Lists.{joined}
 use Rattle.leb128.specs.Field.{encode}
 use Rattle.obu.specs.Unit.{unitLimit, obusOf}
 use Rattle.obu.specs.Laws.{Bytes}
 use Rattle.packetizer.specs.Call.{unitPlan}
-use Rattle.aggregation.specs.Header.{noPacket}
-use Rattle.payloader.specs.Payload.{payload, payloadsOf, joined, plannedBytes}
+use Rattle.packetizer.specs.Records.{noPacket}
+use Rattle.payloader.specs.Payload.{payload, payloadsOf, plannedBytes}
 
 -- Y1: payload k is that of record k
 abbrev pub PayloadAt : Type 0

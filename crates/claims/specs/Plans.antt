@@ -4,12 +4,12 @@ use Prim.Native.Nat.{ℕ, _-_, _≤_, _<_}
 use mathlib.Core.List.{List, dropLast, flatMap}
 use mathlib.Core.Bool.{cond}
 use lib.ListN.{length, getD}
-use Rattle.base.specs.Lists.{All}
+use Rattle.base.specs.Lists.{All, joined}
 use Rattle.packetizer.specs.Fragment.{largestFragment, Largest}
-use Rattle.packetizer.specs.Plan.{leastMtu, newPacket, isFourth, leftIn, fragmentOf, planOf}
+use Rattle.packetizer.specs.Plan.{leastMtu, newPacket, fourthOrLater, leftIn, fragmentOf, planOf}
 use Rattle.packetizer.specs.Elements.{elementsOf, totalSize}
 use Rattle.packetizer.specs.Call.{sizesOf, unitPlan}
-use Rattle.packetizer.specs.Laws.{Positive, position, Sound, Runs, EndsObu, partOf, joined, sentOf}
+use Rattle.packetizer.specs.Laws.{Positive, position, Sound, Runs, EndsObu, partOf, sentOf}
 use Rattle.packetizer.specs.declared.PacketMetadata.{PacketMetadata}
 
 -- P12: the largest fragment is the largest that fits with its length field
@@ -19,7 +19,7 @@ LargestIs = (r : ℕ) → Largest r (largestFragment r)
 -- P11: only an OBU of one byte is taken out again
 abbrev pub TakenOutOne : Type 0
 TakenOutOne =
-    (room : ℕ) (p : PacketMetadata) (s : ℕ) → cond (isFourth p) 2 1 ≤ leftIn room p → 1 ≤ s → fragmentOf room p s ≡ 0 → s ≡ 1
+    (room : ℕ) (p : PacketMetadata) (s : ℕ) → cond (fourthOrLater p) 2 1 ≤ leftIn room p → 1 ≤ s → fragmentOf room p s ≡ 0 → s ≡ 1
 
 -- ---- for OBUs of at least one byte and an mtu from the smallest on; those of a unit are such
 

@@ -13,9 +13,9 @@ use Rattle.base.proofs.Lists.{part-from}
 use Rattle.base.proofs.Tests.{split-on}
 use Rattle.obu.specs.Header.{extensionBit, headerSize, cleared}
 use Rattle.obu.specs.Wire.{payloadOf, sent}
+use Rattle.obu.specs.Laws.{Lies}
 use Rattle.obu.specs.declared.Obu.{Obu}
 use Rattle.obu.proofs.Theorems.{payload-length}
-use Rattle.payloader.proofs.Units.{Lies}
 use Rattle.crate_laws.specs.Rust.{ok}
 use Rattle.crate_laws.specs.Payload.{putLength, putIf, withoutSizeBit, payloadOffset, elementOf, takesHeader, lessIf, lastFrom, lastElementOf}
 use Rattle.crate_laws.specs.Same.{asCrate}

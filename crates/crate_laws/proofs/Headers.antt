@@ -8,10 +8,12 @@ use lib.ListN.{length, getD, length-map, List·getD-map}
 use lib.Dec.{ltb, leb}
 use lib.Bits.{bitOr, or-zero-l, or-zero-r}
 use borrow.Author.Tests.{leb-true}
+use Rattle.obu.specs.Records.{noObu}
 use Rattle.obu.specs.declared.Obu.{Obu}
 use Rattle.packetizer.specs.Plan.{mostCounted}
+use Rattle.packetizer.specs.Records.{noPacket}
 use Rattle.packetizer.specs.declared.PacketMetadata.{PacketMetadata}
-use Rattle.aggregation.specs.Header.{noObu, noPacket, lastObu, lastStart, zOf, yOf, wOf}
+use Rattle.aggregation.specs.Header.{lastObu, lastStart, zOf, yOf, wOf}
 use Rattle.aggregation.proofs.Bits.{or-sum}
 use Rattle.aggregation.proofs.Laws.{w-few}
 use Rattle.crate_laws.specs.Rust.{ok, asU8, shlU8}

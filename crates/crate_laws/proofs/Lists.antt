@@ -9,6 +9,7 @@ use lib.Seq.{drop-drop}
 use lib.Dec.{ltb}
 use borrow.Author.Tests.{ltb-true, ltb-false}
 use Rattle.base.specs.Lists.{keep}
+use Rattle.base.specs.Streams.{streamFrom}
 use Rattle.base.proofs.Tests.{split-on}
 use Rattle.obu.specs.Laws.{Bytes}
 use Rattle.obu.specs.Header.{headerSize}
@@ -38,10 +39,10 @@ module _ (unit : List ℕ) where
       by-kept false = refl
 
   abbrev pub scanAt : ℕ → Scan
-  scanAt index = scanFrom (drop index unit) 0 index
+  scanAt index = scanFrom (drop index unit) index
 
-  scan-done : (index : ℕ) (obus : List CrateObu) → length unit ≤ index → ok obus ≡ ok (obus ++ keptAs (scanAt index .obus))
-  unfolding scanFrom keep
+  scan-done : (index : ℕ) (obus : List CrateObu) → length unit ≤ index → ok obus ≡ ok (obus ++ keptAs (scanAt index .items))
+  unfolding streamFrom keep
   scan-done index obus h = rw (drop-of-length-le unit h, append-nil obus)
 
   -- where we meet no refusal, an OBU is found, and then the rest
@@ -57,14 +58,14 @@ module _ (unit : List ℕ) where
           absurd (omega arith)
 
   pub scan-next : (index : ℕ) (f : Front) → index < length unit → found f ≡ frontOf (drop index unit)
-      → scanAt index ≡ record { obus = placed index f ∷ scanAt (index + spanOf f) .obus; stop = scanAt (index + spanOf f) .stop }
+      → scanAt index ≡ record { items = placed index f ∷ scanAt (index + spanOf f) .items; stop = scanAt (index + spanOf f) .stop }
   scan-next index f h q =
       scan-found (drop index unit) index f q (omega (arith, length-drop index unit)) ∙ rw (drop-drop (spanOf f) index unit)
 
   module _ (bytes : Bytes unit) where
     -- the loop at an index, with turns enough, where we meet no refusal from there on
     parse-from : (turns index : ℕ) (obus : List CrateObu) → index ≤ length unit → length unit ≤ turns + index → scanAt index .stop ≡ ended
-        → parseFrom turns unit (length unit - index) index obus ≡ ok (obus ++ keptAs (scanAt index .obus))
+        → parseFrom turns unit (length unit - index) index obus ≡ ok (obus ++ keptAs (scanAt index .items))
     unfolding parseFrom
     parse-from zero index obus inside enough e = scan-done index obus (omega arith)
     parse-from (suc turns) index obus inside enough e = split-on (ltb 0 (length unit - index))
@@ -76,7 +77,7 @@ module _ (unit : List ℕ) where
         let next : index + f .field + (headerSize (f .header) + f .payload) ≡ index + spanOf f = omega arith in
         rw (t, obu-at unit bytes index f q h, left, next, n)
         (parse-from turns (index + spanOf f) (pushed obus (asCrate unit (placed index f .obu))) (spans unit bytes index f q h) (omega arith) (sym (ap (λ (x : Scan). x .stop) n) ∙ e)
-        ∙ ap {B = Outcome (List CrateObu)} ok (pushed-is obus (placed index f) (scanAt (index + spanOf f) .obus))))
+        ∙ ap {B = Outcome (List CrateObu)} ok (pushed-is obus (placed index f) (scanAt (index + spanOf f) .items))))
         (λ t. rw t (scan-done index obus (omega (arith, ltb-false 0 (length unit - index) t))))
 
     pub parse-same : scanOf unit .stop ≡ ended → «parse_obus» unit ≡ ok (map (asCrate unit) (obusOf unit))

@@ -12,7 +12,8 @@ use Rattle.base.specs.Answers.{given}
 use Rattle.obu.specs.Unit.{obusOf}
 use Rattle.obu.specs.declared.Obu.{Obu}
 use Rattle.packetizer.specs.Call.{unitPlan}
-use Rattle.aggregation.specs.Header.{noPacket, nOf}
+use Rattle.packetizer.specs.Records.{noPacket}
+use Rattle.aggregation.specs.Header.{nOf}
 use Rattle.crate_laws.specs.Packetizer.{setsN}
 use Rattle.crate_laws.specs.Pieces.{crateNew, zywOf}
 use Rattle.crate_laws.specs.Same.{asCrate, crateObus, SameNew, SameHeaders, SamePayloads}

@@ -10,17 +10,21 @@ use lib.Seq.{take-all}
 use lib.Dec.{ltb}
 use borrow.Author.Tests.{ne-eqb}
 use Rattle.obu.specs.Wire.{sent}
+use Rattle.obu.specs.Records.{noObu}
+use Rattle.obu.specs.Laws.{Lies}
 use Rattle.obu.specs.declared.Obu.{Obu}
 use Rattle.packetizer.specs.Plan.{mostCounted}
 use Rattle.packetizer.specs.Elements.{elementsFrom}
 use Rattle.packetizer.specs.declared.PacketMetadata.{PacketMetadata}
 use Rattle.packetizer.specs.Laws.{startOf, Sound}
-use Rattle.aggregation.specs.Header.{noObu, noPacket, lastObu}
+use Rattle.packetizer.specs.Records.{noPacket}
+use Rattle.packetizer.specs.Call.{sizes}
+use Rattle.packetizer.proofs.Turns.{size-at}
+use Rattle.aggregation.specs.Header.{lastObu}
 use Rattle.payloader.specs.Payload as ours
-use Rattle.payloader.proofs.Units.{Lies}
-use Rattle.payloader.proofs.Bodies.{sizes, size-at, sent-size, part-length}
+use Rattle.payloader.proofs.Bodies.{sent-size, part-length}
 use Rattle.crate_laws.specs.Rust.{Outcome, ok}
-use Rattle.crate_laws.specs.Payload.{putLength, storeFrom, packetOf}
+use Rattle.crate_laws.specs.Payload.{putLength, storeFrom, packetBytes}
 use Rattle.crate_laws.specs.Pieces.{writtenBy, crateNew, crateWriter, zywOf, packetPieces}
 use Rattle.crate_laws.specs.Same.{asCrate}
 use Rattle.crate_laws.proofs.Steps.{at-is, minus-is}
@@ -136,8 +140,8 @@ module _ (unit : List ℕ) (obus : List Obu) where
       abbrev first : ℕ
       first = zywOf obus p + crateNew (map (asCrate unit) obus) k
 
-      pub packet-is : packetOf (map (asCrate unit) obus) packets k ≡ ok (writtenBy (crateWriter (map (asCrate unit) obus)) (packetPieces unit obus k p))
-      unfolding packetOf
+      pub packet-is : packetBytes (map (asCrate unit) obus) packets k ≡ ok (writtenBy (crateWriter (map (asCrate unit) obus)) (packetPieces unit obus k p))
+      unfolding packetBytes
       packet-is =
           rw (
             at-is noPacket packets k there,

@@ -9,13 +9,14 @@ use lib.ListN.{length, getD, drop, length-drop, drop-of-length-le}
 use lib.Seq.{drop-drop, getD-drop}
 use lib.Dec.{ltb, leb, eqb}
 use borrow.Author.Tests.{lt-ltb, lt-leb, eq-eqb, ne-eqb, eqb-true, eqb-false, leb-true, leb-false, ltb-true, ltb-false}
+use Rattle.base.specs.Streams.{streamFrom}
 use Rattle.base.proofs.Tests.{by-cond, split-on}
 use Rattle.leb128.specs.Field.{Field, sized, unreadable, more, fieldIn, capped, sizeField, longestField, largestValue}
 use Rattle.leb128.proofs.Reading.{Sized, size-within}
 use Rattle.obu.specs.Laws.{Bytes}
 use Rattle.obu.specs.Header.{extensionBit, sizeBit, headerSize}
 use Rattle.obu.specs.Front.{Front, spanOf, Seen, found, stopped, sizedBy, headed, frontOf}
-use Rattle.obu.specs.Unit.{placed, ended, refusedBy, Scan, scanFrom, scanOf}
+use Rattle.obu.specs.Unit.{placed, ended, refusedBy, Scan, scanOf}
 use Rattle.obu.proofs.Fronts.{extensionOf, front-3, front-headed}
 use Rattle.obu.proofs.Scans.{scan-stopped}
 use Rattle.crate_laws.specs.Rust.{ErrPayloadTooSmallForObuExtensionHeader, ErrPayloadTooSmallForObuPayloadSize, Outcome, ok, err, panic, _>>=_, at, slice}
@@ -190,7 +191,7 @@ refusal-ends n next = by-tests (eqb n 3) (eqb n 4)
 
 module _ (unit : List ℕ) (bytes : Bytes unit) (n offset : ℕ) (five : n ≡ 5 → ⊥) (six : n ≡ 6 → ⊥) where
   not-done : (index : ℕ) → length unit ≤ index → scanAt unit index .stop ≡ refusedBy n offset → ⊥
-  unfolding scanFrom
+  unfolding streamFrom
   not-done index h e =
       let f : ended ≡ refusedBy n offset = rw (drop-of-length-le unit h) at e in
       let z : _≡_ {A = ℕ} 0 1 = cc in

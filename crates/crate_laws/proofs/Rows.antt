@@ -4,9 +4,9 @@ use mathlib.Core.Path.{_≡_, refl}
 use Prim.Native.Nat.{ℕ}
 use mathlib.Core.List.{List, [], _∷_, map, flatMap}
 use Rattle.base.specs.Lists.{keep}
+use Rattle.base.specs.Streams.{streamFrom}
 use Rattle.leb128.specs.Field.{fieldIn, encodeIn}
 use Rattle.obu.specs.Front.{frontOf, headed}
-use Rattle.obu.specs.Unit.{scanFrom}
 use Rattle.packetizer.specs.Fragment.{largestFragment}
 use Rattle.packetizer.specs.Plan.{chargeOf, isFull, needOf, fragmentOf, spread, insert, place, planFrom, planOf}
 use Rattle.packetizer.specs.Elements.{elementsFrom}
@@ -17,7 +17,7 @@ use Rattle.crate_laws.specs.Rust.{Outcome, ok, err, panic, _>>=_, ErrPay
 use Rattle.crate_laws.specs.Leb128.{encodeTurns, decodeTurns, readFrom, sizeTurns, putTurns}
 use Rattle.crate_laws.specs.Obu.{CrateObu, «parse_obus», extensionHeader, sizedPayload, obuPayload, obuAt, parseFrom}
 use Rattle.crate_laws.specs.Packetizer.{«additional_bytes_for_previous_obu_element», fragmentTurns, «max_fragment_size», opened, withFragment, middles, withLast, obuTurn, packetizeTurns, «packetize», setsN, «get_aggregation_header»}
-use Rattle.crate_laws.specs.Payload.{payloadOffset, elementOf, storeFrom, lastFrom, packetOf, packetsFrom, payload}
+use Rattle.crate_laws.specs.Payload.{payloadOffset, elementOf, storeFrom, lastFrom, packetBytes, packetsFrom, payload}
 use Rattle.crate_laws.specs.Parted.{outgrown, Outgrows}
 
 -- an OBU: header byte, extension byte, size, and the bytes of its payload; a packet: its five numbers
@@ -88,11 +88,11 @@ rows =
     ∷ []
 
 pub table : map (λ (r : Row). seenOf (r .mtu) (r .unit)) rows ≡ map (λ (r : Row). r .outcome) rows
-unfolding obuNumbers packetNumbers seen seenOf row rows at slice minus decodeTurns readFrom extensionHeader sizedPayload obuPayload obuAt parseFrom setsN «get_aggregation_header» payloadOffset elementOf storeFrom lastFrom packetOf packetsFrom payload pop «additional_bytes_for_previous_obu_element» opened middles sizeTurns fragmentTurns «max_fragment_size» withFragment withLast obuTurn packetizeTurns «packetize» encodeTurns putTurns
+unfolding obuNumbers packetNumbers seen seenOf row rows at slice minus decodeTurns readFrom extensionHeader sizedPayload obuPayload obuAt parseFrom setsN «get_aggregation_header» payloadOffset elementOf storeFrom lastFrom packetBytes packetsFrom payload pop «additional_bytes_for_previous_obu_element» opened middles sizeTurns fragmentTurns «max_fragment_size» withFragment withLast obuTurn packetizeTurns «packetize» encodeTurns putTurns
 table = refl
 
 -- ---- the crate's payload outgrows the mtu of 132
 
 pub outgrows : Outgrows
-unfolding outgrown at slice minus decodeTurns readFrom extensionHeader sizedPayload obuPayload obuAt parseFrom setsN «get_aggregation_header» payloadOffset elementOf storeFrom lastFrom packetOf packetsFrom payload pop «additional_bytes_for_previous_obu_element» opened middles sizeTurns fragmentTurns «max_fragment_size» withFragment withLast obuTurn packetizeTurns «packetize» encodeTurns putTurns scanFrom frontOf headed fieldIn keep encodeIn planOf planFrom place insert spread fragmentOf needOf isFull chargeOf largestFragment elementsFrom nOf byteOf ours.fielded ours.payload ours.payloadsFrom flatMap
+unfolding outgrown at slice minus decodeTurns readFrom extensionHeader sizedPayload obuPayload obuAt parseFrom setsN «get_aggregation_header» payloadOffset elementOf storeFrom lastFrom packetBytes packetsFrom payload pop «additional_bytes_for_previous_obu_element» opened middles sizeTurns fragmentTurns «max_fragment_size» withFragment withLast obuTurn packetizeTurns «packetize» encodeTurns putTurns streamFrom frontOf headed fieldIn keep encodeIn planOf planFrom place insert spread fragmentOf needOf isFull chargeOf largestFragment elementsFrom nOf byteOf ours.fielded ours.payload ours.payloadsFrom flatMap
 outgrows = record { crate-lengths = refl; our-lengths = refl; crate-first = refl; our-first = refl }

@@ -15,27 +15,30 @@ use lib.Seq.{drop-cons}
 use lib.Dec.{ltb}
 use borrow.Author.Tests.{ltb-false}
 use Rattle.base.specs.Answers.{Answer, given, refused}
+use Rattle.base.specs.Lists.{joined}
 use Rattle.base.proofs.Tests.{split-on}
 use Rattle.obu.specs.Laws.{Bytes}
-use Rattle.obu.specs.Unit.{unitLimit, obuNumbers, Placed, Stop, ended, refusedBy, scanOf, keptOf, obusOf, atStop, listed, listAnswer}
+use Rattle.obu.specs.Unit.{unitLimit, Placed, ScanEnd, ended, refusedBy, scanOf, keptOf, obusOf, listedOf, atStop, listed, listAnswer}
+use Rattle.obu.specs.Records.{obuNumbers}
 use Rattle.obu.specs.declared.Obu.{Obu}
-use Rattle.packetizer.specs.Plan.{planNumbers, planOf}
-use Rattle.packetizer.specs.Call.{mtuLimit, sizesOf, unitPlan, planned, planAnswer}
+use Rattle.obu.specs.declared.Listed.{Listed}
+use Rattle.obu.proofs.Records.{obu-lies}
+use Rattle.packetizer.specs.Plan.{planOf}
+use Rattle.packetizer.specs.Call.{mtuLimit, sizesOf, unitPlan, toPlan, planned, planAnswer, sizes}
 use Rattle.packetizer.specs.declared.PacketMetadata.{PacketMetadata}
 use Rattle.packetizer.specs.declared.Planned.{Planned}
 use Rattle.packetizer.specs.Laws.{Sound}
+use Rattle.packetizer.specs.Records.{planNumbers, noPacket}
 use Rattle.packetizer.proofs.Calls.{unit-small, given-kept}
-use Rattle.aggregation.specs.Header.{noPacket, nOf, byteOf, headerOf}
+use Rattle.aggregation.specs.Header.{nOf, byteOf, headerOf}
 use Rattle.aggregation.proofs.Headers.{header-given}
 use Rattle.payloader.specs.Payload as ours
 use Rattle.payloader.specs.Call as call
 use Rattle.payloader.specs.declared.Payloads.{Payloads}
-use Rattle.payloader.proofs.Units.{obu-lies}
-use Rattle.payloader.proofs.Bodies.{sizes}
 use Rattle.payloader.proofs.Packets.{packet-sound}
 use Rattle.crate_laws.specs.Rust.{Outcome, ok}
 use Rattle.crate_laws.specs.Packetizer.{«packetize»}
-use Rattle.crate_laws.specs.Payload.{packetOf, packetsFrom, payload}
+use Rattle.crate_laws.specs.Payload.{packetBytes, packetsFrom, payload}
 use Rattle.crate_laws.specs.Pieces.{writtenBy, crateWriter, zywOf, packetPieces, piecesFrom, piecesOf}
 use Rattle.crate_laws.specs.Same.{Allowed, asCrate, crateObus, crateSizes, In32Bits, SameHeader, SameUnits, EqualPayloads, SentAllowed, ListedSame, PlannedSame, SentSame}
 use Rattle.crate_laws.proofs.Lists.{parse-same}
@@ -53,7 +56,7 @@ sizes-same unit (o ∷ obus) = ap {B = List ℕ} (λ l. o .size ∷ l) (sizes-sa
 module _ (unit : List ℕ) (obus : List Obu) (packets : List PacketMetadata)
     (each :
     (k : ℕ) → k < length packets
-    → packetOf (map (asCrate unit) obus) packets k
+    → packetBytes (map (asCrate unit) obus) packets k
     ≡ ok (writtenBy (crateWriter (map (asCrate unit) obus)) (packetPieces unit obus k (getD packets k noPacket))))
   where
     packets-from : (left k : ℕ) → left + k ≡ length packets
@@ -118,12 +121,12 @@ equal-payloads mtu unit bytes a short new =
 -- ---- the calls: what they answer with numbers is accepted
 
 -- the list call, with space for so many records
-listed-ended : (unit : List ℕ) (space n : ℕ) → given n ≡ listed space unit → scanOf unit .stop ≡ ended
+listed-ended : (unit : List ℕ) (space : ℕ) (l : Listed) → given l ≡ listed space unit → scanOf unit .stop ≡ ended
 unfolding listed
-listed-ended unit space n e = by-stop (ltb unitLimit (length unit)) (ltb space (length (keptOf unit))) (scanOf unit .stop) e
+listed-ended unit space l e = by-stop (ltb unitLimit (length unit)) (ltb space (length (keptOf unit))) (scanOf unit .stop) e
   where
-    by-stop : (t u : Bool) (s : Stop)
-        → given n ≡ cond t (refused 2 0) (cond u (refused 8 (getD (map (λ (p : Placed). p .at) (keptOf unit)) space 0)) (atStop s (length (keptOf unit))))
+    by-stop : (t u : Bool) (s : ScanEnd)
+        → given l ≡ cond t (refused 2 0) (cond u (refused 8 (getD (map (λ (p : Placed). p .at) (keptOf unit)) space 0)) (atStop s (listedOf unit)))
         → s ≡ ended
     by-stop true u s e = let z : _≡_ {A = ℕ} 0 1 = cc in absurd (omega arith)
     by-stop false true s e = let z : _≡_ {A = ℕ} 0 1 = cc in absurd (omega arith)
@@ -131,14 +134,14 @@ listed-ended unit space n e = by-stop (ltb unitLimit (length unit)) (ltb space (
     by-stop false false ended e = refl
 
 pub listed-same : ListedSame
-listed-same unit obus n bytes e = parse-same unit bytes (listed-ended unit (length obus / obuNumbers) n (sym e))
+listed-same unit obus l bytes e = parse-same unit bytes (listed-ended unit (length obus / obuNumbers) l (sym e))
 
 module _ (mtu : ℕ) (unit obus plan : List ℕ) where
-  planned-list : (p : Planned) (ps : List PacketMetadata) (space : ℕ) (l : Answer ℕ) → planned ps space l ≡ given p → (n : ℕ) × (l ≡ given n)
-  planned-list p ps space (given n) e = (n, refl)
+  planned-list : (p : Planned) (ps : List PacketMetadata) (space : ℕ) (a : Answer Listed) → planned ps space a ≡ given p → (l : Listed) × (a ≡ given l)
+  planned-list p ps space (given l) e = (l, refl)
   planned-list p ps space (refused n at) e = let z : _≡_ {A = ℕ} 0 1 = cc in absurd (omega arith)
 
-  planned-allowed : (p : Planned) → planAnswer mtu unit obus plan ≡ given p → Allowed mtu unit
+  planned-allowed : (p : Planned) → planAnswer (toPlan mtu unit obus plan) ≡ given p → Allowed mtu unit
   unfolding planAnswer
   planned-allowed p e = split-on (ltb mtuLimit mtu)
       (λ t.
@@ -146,17 +149,17 @@ module _ (mtu : ℕ) (unit obus plan : List ℕ) where
       let z : _≡_ {A = ℕ} 0 1 = cc in
       absurd (omega arith))
       (λ t.
-      let (n, q) = planned-list p (unitPlan mtu unit) (length plan / planNumbers) (listAnswer unit obus) (rw t at e) in
-      let k = given-kept unit (length obus / obuNumbers) n (sym q) in
-      record { low = ltb-false mtuLimit mtu t; short = k .0; whole = listed-ended unit (length obus / obuNumbers) n (sym q) })
+      let (l, q) = planned-list p (unitPlan mtu unit) (length plan / planNumbers) (listAnswer unit obus) (rw t at e) in
+      let k = given-kept unit (length obus / obuNumbers) l (sym q) in
+      record { low = ltb-false mtuLimit mtu t; short = k .0; whole = listed-ended unit (length obus / obuNumbers) l (sym q) })
 
   written-plan : (r : Payloads) (l : List ℕ) (space : ℕ) (a : Answer Planned) → call.written l space a ≡ given r → (p : Planned) × (a ≡ given p)
   written-plan r l space (given p) e = (p, refl)
   written-plan r l space (refused n at) e = let z : _≡_ {A = ℕ} 0 1 = cc in absurd (omega arith)
 
-  sent-planned : (out : List ℕ) (r : Payloads) → call.payloadAnswer mtu unit obus plan out ≡ given r → (p : Planned) × (planAnswer mtu unit obus plan ≡ given p)
+  sent-planned : (out : List ℕ) (r : Payloads) → call.payloadAnswer (call.toWrite mtu unit obus plan out) ≡ given r → (p : Planned) × (planAnswer (toPlan mtu unit obus plan) ≡ given p)
   unfolding call.payloadAnswer
-  sent-planned out r e = written-plan r (ours.joined (ours.payloadsOf mtu unit)) (length out) (planAnswer mtu unit obus plan) e
+  sent-planned out r e = written-plan r (joined (ours.payloadsOf mtu unit)) (length out) (planAnswer (toPlan mtu unit obus plan)) e
 
 pub planned-same : PlannedSame
 planned-same mtu unit obus plan p bytes e = same-units mtu unit bytes (planned-allowed mtu unit obus plan p e)

@@ -12,7 +12,7 @@ use borrow.Author.Tests.{ltb-true, ltb-false, eqb-true, eqb-false}
 use Rattle.base.proofs.Tests.{by-cond, split-on}
 use Rattle.leb128.specs.Field.{largestValue}
 use Rattle.packetizer.specs.Fragment.{fieldSize}
-use Rattle.packetizer.specs.Plan.{newPacket, leftIn, chargeOf, isFourth, isFull, charged, needOf, withElement, fragmentOf, Placed, cutAt, spread, insert, place, planFrom, planOf}
+use Rattle.packetizer.specs.Plan.{newPacket, leftIn, chargeOf, fourthOrLater, isFull, charged, needOf, withElement, fragmentOf, Placing, cutAt, spread, insert, place, planFrom, planOf}
 use Rattle.packetizer.specs.Laws.{Positive}
 use Rattle.packetizer.specs.declared.PacketMetadata.{PacketMetadata}
 use Rattle.packetizer.proofs.Steps.{charge-none}
@@ -30,10 +30,10 @@ use Rattle.crate_laws.proofs.WholeSteps.{popped-push, dropped-push, as-
 -- ---- one OBU
 
 -- the vector with what an OBU closes and its current packet, and what remains in that
-abbrev packing : ℕ → List PacketMetadata → Placed → Packing
+abbrev packing : ℕ → List PacketMetadata → Placing → Packing
 packing room ps x = record { packets = ps ++ x .closed ++ (x .current ∷ []); remaining = room - x .current .«packet_size» }
 
-must-same : (p : PacketMetadata) → ltb 3 (p .«num_obu_elements» + 1) ≡ isFourth p
+must-same : (p : PacketMetadata) → ltb 3 (p .«num_obu_elements» + 1) ≡ fourthOrLater p
 must-same p = rw (add-one (p .«num_obu_elements»)) (leb·suc-suc 3 (p .«num_obu_elements»))
 
 module _ (room i s : ℕ) (small : room ≤ largestValue) (large : 1 ≤ room) (some : s ≤ largestValue) (isLast : Bool) (ps : List PacketMetadata) (p : PacketMetadata) where
@@ -56,7 +56,7 @@ module _ (room i s : ℕ) (small : room ≤ largestValue) (large : 1 ≤ room) (
   cut-same f h =
       let a : p .«num_obu_elements» + 1 - 1 ≡ p .«num_obu_elements» = omega arith in
       let b : p .«packet_size» + chargeOf p - chargeOf p ≡ p .«packet_size» = omega arith in
-      let c : p .«packet_size» + chargeOf p + f + cond (isFourth p) (fieldSize f) 0 ≡ p .«packet_size» + chargeOf p + (f + cond (isFourth p) (fieldSize f) 0) = omega arith in
+      let c : p .«packet_size» + chargeOf p + f + cond (fourthOrLater p) (fieldSize f) 0 ≡ p .«packet_size» + chargeOf p + (f + cond (fourthOrLater p) (fieldSize f) 0) = omega arith in
       rw (must-same p, as-u32 f h, a, b, c)
 
   whole-same : needOf (charged p) s < leftIn room (charged p)

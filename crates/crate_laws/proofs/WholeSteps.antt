@@ -11,7 +11,7 @@ use Rattle.base.proofs.Tests.{by-cond, split-on}
 use Rattle.leb128.specs.Field.{largestValue}
 use Rattle.leb128.specs.Laws.{cap}
 use Rattle.packetizer.specs.Fragment.{fieldSize, largestFragment, Largest}
-use Rattle.packetizer.specs.Plan.{chargeOf, alone, Placed, filling, closing, spread}
+use Rattle.packetizer.specs.Plan.{chargeOf, alone, Placing, filling, closing, spread}
 use Rattle.packetizer.specs.declared.PacketMetadata.{PacketMetadata}
 use Rattle.packetizer.proofs.Fragments.{largest-is, largest-one, largest-none, Shifting, shifting-next, shifting-end}
 use Rattle.crate_laws.specs.Rust.{push}
@@ -122,7 +122,7 @@ last-alone : (most room i s o : ℕ) → spread most room i s o .current ≡ alo
 unfolding spread
 last-alone zero room i s o = refl
 last-alone (suc most) room i s o =
-    by-cond (λ (x : Placed). x .current ≡ alone i (x .current .«first_obu_offset») (s - x .current .«first_obu_offset»)) (ltb room (s - o)) _ _
+    by-cond (λ (x : Placing). x .current ≡ alone i (x .current .«first_obu_offset») (s - x .current .«first_obu_offset»)) (ltb room (s - o)) _ _
     (λ t. last-alone most room i s (o + room))
     (λ t. refl)
 
@@ -130,7 +130,7 @@ last-fits : (most room i s o : ℕ) → 1 ≤ room → s ≤ o + most → s - la
 unfolding spread
 last-fits zero room i s o r h = omega arith
 last-fits (suc most) room i s o r h =
-    by-cond (λ (x : Placed). s - x .current .«first_obu_offset» ≤ room) (ltb room (s - o)) _ _
+    by-cond (λ (x : Placing). s - x .current .«first_obu_offset» ≤ room) (ltb room (s - o)) _ _
     (λ t. let l : room < s - o = ltb-true room (s - o) t in last-fits most room i s (o + room) r (omega arith))
     (λ t. ltb-false room (s - o) t)
 

@@ -72,8 +72,8 @@ lastElementOf obu offset size = lastFrom obu offset size (lessIf (takesHeader of
 
 -- ---- a packet, and all of them
 
-unfoldable pub packetOf : List CrateObu → List PacketMetadata → ℕ → Outcome (List ℕ)
-packetOf obus packets k = do
+unfoldable pub packetBytes : List CrateObu → List PacketMetadata → ℕ → Outcome (List ℕ)
+packetBytes obus packets k = do
   packet ← at packets k
   header ← «get_aggregation_header» obus packets k
   turns ← minus (packet .«num_obu_elements») 1
@@ -90,7 +90,7 @@ packetOf obus packets k = do
 unfoldable pub packetsFrom : ℕ → List CrateObu → List PacketMetadata → ℕ → Outcome (List (List ℕ))
 packetsFrom zero obus packets k = ok []
 packetsFrom (suc left) obus packets k = do
-  payload ← packetOf obus packets k
+  payload ← packetBytes obus packets k
   payloads ← packetsFrom left obus packets (k + 1)
   ok (payload ∷ payloads)
 

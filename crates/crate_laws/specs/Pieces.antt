@@ -9,12 +9,13 @@ use lib.Dec.{ltb}
 use Rattle.base.specs.Lists.{All}
 use Rattle.leb128.specs.Field.{encode}
 use Rattle.obu.specs.Unit.{obusOf}
+use Rattle.obu.specs.Records.{noObu}
 use Rattle.obu.specs.declared.Obu.{Obu}
 use Rattle.packetizer.specs.Plan.{mostCounted}
 use Rattle.packetizer.specs.Elements.{elementsOf}
 use Rattle.packetizer.specs.Call.{unitPlan}
 use Rattle.packetizer.specs.declared.PacketMetadata.{PacketMetadata}
-use Rattle.aggregation.specs.Header.{noObu, lastObu, zOf, yOf, wOf, nOf}
+use Rattle.aggregation.specs.Header.{lastObu, zOf, yOf, wOf, nOf}
 use Rattle.payloader.specs.Payload.{partsOf}
 use Rattle.crate_laws.specs.Obu.{CrateObu}
 use Rattle.crate_laws.specs.Packetizer.{setsN}

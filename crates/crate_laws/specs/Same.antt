@@ -19,13 +19,15 @@ use Rattle.obu.specs.Unit.{unitLimit, ended, scanOf, obusOf, listAnswer}
 use Rattle.obu.specs.Laws.{Bytes}
 use Rattle.obu.specs.Wire as wire
 use Rattle.obu.specs.declared.Obu.{Obu}
+use Rattle.obu.specs.declared.Listed.{Listed}
 use Rattle.packetizer.specs.Plan.{planOf}
-use Rattle.packetizer.specs.Call.{mtuLimit, unitPlan, planAnswer}
+use Rattle.packetizer.specs.Call.{mtuLimit, unitPlan, toPlan, planAnswer}
+use Rattle.packetizer.specs.Records.{noPacket}
 use Rattle.packetizer.specs.declared.PacketMetadata.{PacketMetadata}
 use Rattle.packetizer.specs.declared.Planned.{Planned}
-use Rattle.aggregation.specs.Header.{noPacket, nOf, headerOf}
+use Rattle.aggregation.specs.Header.{nOf, headerOf}
 use Rattle.payloader.specs.Payload.{payloadsOf}
-use Rattle.payloader.specs.Call.{payloadAnswer}
+use Rattle.payloader.specs.Call.{toWrite, payloadAnswer}
 use Rattle.payloader.specs.declared.Payloads.{Payloads}
 use Rattle.crate_laws.specs.Rust.{ok}
 use Rattle.crate_laws.specs.Leb128.{«read_leb128»}
@@ -124,17 +126,17 @@ FieldsSame = (l : List ℕ) (v n : ℕ) → Bytes l → sizeField l ≡ sized v 
 
 abbrev pub SentAllowed : Type 0
 SentAllowed =
-    (mtu : ℕ) (unit obus plan out : List ℕ) (r : Payloads) → payloadAnswer mtu unit obus plan out ≡ given r → Allowed mtu unit
+    (mtu : ℕ) (unit obus plan out : List ℕ) (r : Payloads) → payloadAnswer (toWrite mtu unit obus plan out) ≡ given r → Allowed mtu unit
 
 abbrev pub ListedSame : Type 0
 ListedSame =
-    (unit obus : List ℕ) (n : ℕ) → Bytes unit → listAnswer unit obus ≡ given n → «parse_obus» unit ≡ ok (crateObus unit)
+    (unit obus : List ℕ) (l : Listed) → Bytes unit → listAnswer unit obus ≡ given l → «parse_obus» unit ≡ ok (crateObus unit)
 
 abbrev pub PlannedSame : Type 0
 PlannedSame =
-    (mtu : ℕ) (unit obus plan : List ℕ) (p : Planned) → Bytes unit → planAnswer mtu unit obus plan ≡ given p → Same mtu unit
+    (mtu : ℕ) (unit obus plan : List ℕ) (p : Planned) → Bytes unit → planAnswer (toPlan mtu unit obus plan) ≡ given p → Same mtu unit
 
 abbrev pub SentSame : Type 0
 SentSame =
-    (mtu : ℕ) (unit obus plan out : List ℕ) (r : Payloads) → Bytes unit → payloadAnswer mtu unit obus plan out ≡ given r
+    (mtu : ℕ) (unit obus plan out : List ℕ) (r : Payloads) → Bytes unit → payloadAnswer (toWrite mtu unit obus plan out) ≡ given r
     → Same mtu unit

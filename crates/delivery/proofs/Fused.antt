@@ -5,38 +5,39 @@ use native.Mathlib.Omega.{arith}
 use mathlib.Core.List.{List, [], _∷_, _++_, map, flatMap}
 use lib.ListN.{getD, replicate}
 use Rattle.base.specs.Lists.{keep, All}
+use Rattle.base.specs.Streams.{streamFrom}
 use Rattle.leb128.specs.Field.{fieldIn, encodeIn}
 use Rattle.obu.specs.Front.{frontOf, headed}
-use Rattle.obu.specs.Unit.{scanFrom, obusOf}
+use Rattle.obu.specs.Unit.{obusOf}
 use Rattle.obu.specs.Wire.{wholeOf, wire, wireOf}
 use Rattle.packetizer.specs.Fragment.{largestFragment}
 use Rattle.packetizer.specs.Plan.{chargeOf, isFull, needOf, fragmentOf, spread, insert, place, planFrom, planOf}
 use Rattle.packetizer.specs.Elements.{elementsFrom}
 use Rattle.aggregation.specs.Header.{nOf, byteOf}
 use Rattle.payloader.specs.Payload.{fielded, payload, payloadsFrom}
-use Rattle.element.specs.Elements.{elementAt, untilEnd, exactly, counting, elementsOf, payloadElements}
+use Rattle.element.specs.Elements.{elementAt, exactly, counting, elementsOf, payloadElements}
 use Rattle.handing.specs.Handing.{wires}
-use Rattle.receiver.specs.Joining.{fresh, isAhead, isInStep, joined, finished, left, handed, keptOpen, next, out}
-use Rattle.receiver.specs.Call.{taken, outcome, stateOf}
-use Rattle.delivery.specs.Calls.{calls, handedOut}
+use Rattle.receiver.specs.Joining.{isAhead, isInStep, follows, withFragment, finished, left, handed, keptOpen, next, out}
+use Rattle.receiver.specs.Call.{taken, outcome}
+use Rattle.delivery.specs.Calls.{calls, freshCalls, handedOut}
 use Rattle.delivery.specs.Fused.{one, other, fusedPackets, arrival, neither, Fused}
 
 packets : List (List ℕ)
 packets = (0x50 ∷ 0x30 ∷ 0xa1 ∷ []) ∷ (0x90 ∷ 0xb2 ∷ []) ∷ []
 
 packets-are : fusedPackets ≡ packets
-unfolding packets flatMap keep fieldIn encodeIn headed frontOf scanFrom largestFragment chargeOf isFull needOf fragmentOf spread insert place planFrom planOf elementsFrom nOf byteOf fielded payload payloadsFrom
+unfolding packets flatMap keep fieldIn encodeIn headed frontOf streamFrom largestFragment chargeOf isFull needOf fragmentOf spread insert place planFrom planOf elementsFrom nOf byteOf fielded payload payloadsFrom
 packets-are = refl
 
 abbrev outOf : List (List ℕ) → List ℕ
-outOf ps = handedOut (calls ps 41 (stateOf fresh) (replicate 3 0) (arrival 0 ∷ arrival 1 ∷ []))
+outOf ps = handedOut (freshCalls (record { payloads = ps; first = 41 }) (replicate 3 0) (arrival 0 ∷ arrival 1 ∷ []))
 
 out-is : outOf packets ≡ neither
-unfolding packets calls flatMap outcome taken payloadElements elementsOf counting untilEnd exactly elementAt fieldIn encodeIn isAhead isInStep joined finished left handed keptOpen next out wires wire wholeOf frontOf headed
+unfolding packets calls flatMap outcome taken payloadElements elementsOf counting streamFrom exactly elementAt fieldIn encodeIn isAhead isInStep follows withFragment finished left handed keptOpen next out wires wire wholeOf frontOf headed
 out-is = refl
 
 works : map (wireOf one) (obusOf one) ++ map (wireOf other) (obusOf other) ≡ (0x32 ∷ 2 ∷ 0xa1 ∷ 0xa2 ∷ []) ∷ (0x32 ∷ 2 ∷ 0xb1 ∷ 0xb2 ∷ []) ∷ []
-unfolding keep fieldIn encodeIn headed frontOf scanFrom
+unfolding keep fieldIn encodeIn headed frontOf streamFrom
 works = refl
 
 pub fused : Fused

@@ -5,16 +5,17 @@ use Prim.Native.Nat.{ℕ}
 use native.Mathlib.Omega.{arith}
 use mathlib.Core.List.{List, [], _∷_, map, flatMap}
 use lib.ListN.{replicate}
+use Rattle.base.specs.Streams.{streamFrom}
 use Rattle.leb128.specs.Field.{fieldIn, encodeIn}
 use Rattle.obu.specs.Front.{frontOf, headed}
 use Rattle.obu.specs.Wire.{wholeOf, wire}
-use Rattle.element.specs.Elements.{elementAt, untilEnd, exactly, counting, elementsOf, payloadElements}
+use Rattle.element.specs.Elements.{elementAt, exactly, counting, elementsOf, payloadElements}
 use Rattle.handing.specs.Handing.{wires}
-use Rattle.receiver.specs.Joining.{fresh, isAhead, isInStep, joined, finished, left, handed, keptOpen, next, out}
-use Rattle.receiver.specs.Call.{taken, outcome, stateOf}
+use Rattle.receiver.specs.Joining.{isAhead, isInStep, follows, withFragment, finished, left, handed, keptOpen, next, out}
+use Rattle.receiver.specs.Call.{taken, outcome}
 use Rattle.lawful.specs.Train.{obus, join}
 use Rattle.lawful.proofs.Rows.{example, payloads, lawful}
-use Rattle.delivery.specs.Calls.{Arrival, Call, takes, refuses, calls, handedOut, verdicts}
+use Rattle.delivery.specs.Calls.{Arrival, Call, Run, takes, refuses, calls, freshCalls, handedOut, verdicts}
 use Rattle.delivery.specs.Delivery.{Delivered}
 use Rattle.delivery.proofs.Theorem.{delivery}
 
@@ -29,23 +30,26 @@ arrival k = record { packet = k; output = replicate 42 0xdd }
 arrivals : List Arrival
 arrivals = map arrival (1 ∷ 2 ∷ 3 ∷ 3 ∷ 4 ∷ 6 ∷ 5 ∷ [])
 
+sent : Run
+sent = record { payloads = payloads; first = 65533 }
+
 made : List Call
-made = calls payloads 65533 (stateOf fresh) store arrivals
+made = freshCalls sent store arrivals
 
 -- the OBU in packets 2, 3 and 4, and the two in packet 6
 out-is : handedOut made ≡ 0x32 ∷ 5 ∷ 0xa1 ∷ 0xa2 ∷ 0xa3 ∷ 0xa4 ∷ 0xa5 ∷ 0x32 ∷ 1 ∷ 0xb1 ∷ 0x36 ∷ 8 ∷ 0 ∷ []
-unfolding made store arrival arrivals payloads calls flatMap outcome taken payloadElements elementsOf counting untilEnd exactly elementAt fieldIn encodeIn isAhead isInStep joined finished left handed keptOpen next out wires wire wholeOf frontOf headed
+unfolding made sent store arrival arrivals payloads calls flatMap outcome taken payloadElements elementsOf counting streamFrom exactly elementAt fieldIn encodeIn isAhead isInStep follows withFragment finished left handed keptOpen next out wires wire wholeOf frontOf headed
 out-is = refl
 
 verdicts-are : verdicts made ≡ takes ∷ takes ∷ takes ∷ refuses 14 ∷ takes ∷ takes ∷ refuses 14 ∷ []
-unfolding made store arrival arrivals payloads calls flatMap outcome taken payloadElements elementsOf counting untilEnd exactly elementAt fieldIn encodeIn isAhead isInStep joined finished left handed keptOpen next out wires wire wholeOf frontOf headed
+unfolding made sent store arrival arrivals payloads calls flatMap outcome taken payloadElements elementsOf counting streamFrom exactly elementAt fieldIn encodeIn isAhead isInStep follows withFragment finished left handed keptOpen next out wires wire wholeOf frontOf headed
 verdicts-are = refl
 
 -- every premise is met
-met : Delivered example payloads 65533 store arrivals
-unfolding store arrival arrivals example payloads obus join
+met : Delivered example sent store arrivals
+unfolding sent store arrival arrivals example payloads obus join
 met =
-    delivery example payloads 65533 6 9 store arrivals lawful
+    delivery example sent 6 9 store arrivals lawful
     (omega arith, (omega arith, omega arith, omega arith, (omega arith, omega arith, omega arith, (omega arith, omega arith, omega arith, (omega arith, omega arith, omega arith, (omega arith, omega arith, omega arith, (omega arith, omega arith, omega arith, tt)))))))
     (record {
       obus-fit = (omega arith, (omega arith, (omega arith, (omega arith, (omega arith, (omega arith, (omega arith, (omega arith, tt))))))));

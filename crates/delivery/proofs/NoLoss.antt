@@ -1,4 +1,4 @@
--- With no loss all OBUs come out (A6, A7). Assumes nothing.
+-- With no loss all OBUs come out (K6, K7). Assumes nothing.
 use mathlib.Core.Path.{_≡_, refl, _∙_}
 use Prim.Native.Nat.{ℕ, zero, suc, _+_, _≤_, _<_}
 use native.Mathlib.Nat.{max-eq-right}
@@ -11,7 +11,7 @@ use borrow.Author.Tests.{ltb-true, ltb-false, le-ltb, eq-eqb}
 use Rattle.base.specs.Lists.{keep, All}
 use Rattle.base.proofs.Lists.{all-snoc}
 use Rattle.base.proofs.Tests.{by-cond}
-use Rattle.lawful.specs.Train.{Piece, cut, inner, final, packets, runOf, Portion, portion, obus, obusIn, whole}
+use Rattle.lawful.specs.Train.{Piece, cut, inner, final, packets, packetsOfPieces, Portion, portion, obus, obusOfPieces, whole}
 use Rattle.lawful.proofs.Reading.{carried-count}
 use Rattle.delivery.specs.Arrivals.{timely, NearTo, Near, inOrder}
 use Rattle.delivery.specs.Calls.{takes, takenOr14}
@@ -77,8 +77,8 @@ module _ (size : ℕ) where
   all-kept (o ∷ l) h = rw (all-whole o (h .0), all-kept l (h .1))
 
 pub no-loss : NoLoss
-no-loss t payloads first size mtu store arrivals l e sp =
-    let n : ℕ = length payloads in
-    let d : Delivered t payloads first store arrivals = delivery t payloads first size mtu store arrivals l (rw e (all-near n)) sp in
-    let i : All (All (In n)) (obusIn t) = portions-in n t false [] 0 [] (omega (arith, carried-count payloads (runOf t) (l .carried))) tt in
-    (d .out ∙ rw (e, all-kept n (obusIn t) i), rw (d .refusals, e, ← (advances-first (inOrder 0 n))) (order-advances n 0))
+no-loss t sent size mtu store arrivals l e sp =
+    let n : ℕ = length (sent .payloads) in
+    let d : Delivered t sent store arrivals = delivery t sent size mtu store arrivals l (rw e (all-near n)) sp in
+    let i : All (All (In n)) (obusOfPieces t) = portions-in n t false [] 0 [] (omega (arith, carried-count (sent .payloads) (packetsOfPieces t) (l .carried))) tt in
+    (d .out ∙ rw (e, all-kept n (obusOfPieces t) i), rw (d .refusals, e, ← (advances-first (inOrder 0 n))) (order-advances n 0))

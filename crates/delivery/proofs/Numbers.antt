@@ -7,35 +7,39 @@ use mathlib.Core.Bool.{Bool, true, false, _&&_}
 use lib.Dec.{leb, eqb}
 use borrow.Author.Tests.{leb-true, le-leb, lt-leb, eqb-true, eqb-false, eq-eqb, ne-eqb}
 use Rattle.base.proofs.Tests.{split-on}
-use Rattle.receiver.specs.Joining.{Held, distance, furthestAhead, isAhead, isInStep, ahead, inStep}
+use Rattle.receiver.specs.Joining.{Held, holding, distance, furthestAhead, isAhead, isInStep, ahead, follows}
 use Rattle.delivery.specs.Arrivals.{number, furthestBehind}
+use Rattle.delivery.specs.Calls.{Run, packetAt}
 
 -- what is held after packet m, with the open fragment o
-abbrev pub after : ℕ → ℕ → List ℕ → Held
-after first m o = record { begun = true; last = number first m; fragment = o }
+abbrev pub after : Run → ℕ → List ℕ → Held
+after run m o = holding (packetAt run m .label) o
 
 -- packet m is the furthest one taken, packet a arrives
-module _ (first m a : ℕ) (o : List ℕ) where
-  forward : m < a → a ≤ m + furthestAhead → distance (number first m) (number first a) ≡ a - m
+module _ (run : Run) (m a : ℕ) (o : List ℕ) where
+  abbrev steps : ℕ
+  steps = distance (number (run .first) m) (number (run .first) a)
+
+  forward : m < a → a ≤ m + furthestAhead → steps ≡ a - m
   forward h l = omega arith
 
-  behind : a ≤ m → m ≤ a + furthestBehind → 1 ≤ distance (number first m) (number first a) → furthestAhead < distance (number first m) (number first a)
+  behind : a ≤ m → m ≤ a + furthestBehind → 1 ≤ steps → furthestAhead < steps
   behind h l i = omega arith
 
-  pub not-ahead : a ≤ m → m ≤ a + furthestBehind → ahead (after first m o) (number first a) ≡ false
+  pub not-ahead : a ≤ m → m ≤ a + furthestBehind → ahead (after run m o) (packetAt run a .label) ≡ false
   unfolding isAhead
-  not-ahead h l = go (leb 1 (distance (number first m) (number first a))) refl
+  not-ahead h l = go (leb 1 steps) refl
     where
-      go : (b : Bool) → leb 1 (distance (number first m) (number first a)) ≡ b → b && leb (distance (number first m) (number first a)) furthestAhead ≡ false
-      go true e = lt-leb (distance (number first m) (number first a)) furthestAhead (behind h l (leb-true 1 _ e))
+      go : (b : Bool) → leb 1 steps ≡ b → b && leb steps furthestAhead ≡ false
+      go true e = lt-leb steps furthestAhead (behind h l (leb-true 1 _ e))
       go false e = refl
 
-  pub is-ahead : m < a → a ≤ m + furthestAhead → ahead (after first m o) (number first a) ≡ true
+  pub is-ahead : m < a → a ≤ m + furthestAhead → ahead (after run m o) (packetAt run a .label) ≡ true
   unfolding isAhead
   is-ahead h l = rw (forward h l, le-leb 1 (a - m) (omega arith), le-leb (a - m) furthestAhead (omega arith))
 
-  pub is-in-step : m < a → a ≤ m + furthestAhead → inStep (after first m o) (number first a) ≡ eqb a (suc m)
-  unfolding isInStep
+  pub is-in-step : m < a → a ≤ m + furthestAhead → follows true (packetAt run m .label) (packetAt run a .label) ≡ eqb a (suc m)
+  unfolding follows isInStep
   is-in-step h l = rw (forward h l) (same (a - m) 1 a (suc m) (λ q. omega arith) (λ q. omega arith))
     where
       same : (x y c d : ℕ) → (x ≡ y → c ≡ d) → (c ≡ d → x ≡ y) → eqb x y ≡ eqb c d

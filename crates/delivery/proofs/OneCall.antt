@@ -4,7 +4,7 @@ use Prim.Native.Nat.{ℕ, _≤_}
 use mathlib.Core.List.{List, [], _∷_, flatMap}
 use mathlib.Core.Bool.{true, false}
 use lib.ListN.{length}
-use Rattle.base.specs.Answers.{Answer, given, refused}
+use Rattle.base.specs.Answers.{Answer, given, refused, Given}
 use Rattle.base.specs.Lists.{All}
 use Rattle.base.proofs.Lists.{all-map}
 use Rattle.obu.specs.Front.{Front}
@@ -13,12 +13,12 @@ use Rattle.element.proofs.Laws.{payload-fits}
 use Rattle.handing.specs.Handing.{fragmentLimit, wires}
 use Rattle.handing.proofs.Wires.{wires-each}
 use Rattle.receiver.specs.Packet.{Packet, packetBy, packetOf}
-use Rattle.receiver.specs.Joining.{Held, ahead, joinable, lost, handed, keptOpen, next, out}
-use Rattle.receiver.specs.Call.{stateOf, outcome}
-use Rattle.receiver.proofs.Laws.{taken-all, taken-behind, Holding, outcome-holding}
+use Rattle.receiver.specs.Joining.{Held, ahead, joinable, lost, handed, keptOpen, holding, next, out}
+use Rattle.receiver.specs.Call.{Incoming, outcome}
+use Rattle.receiver.proofs.Laws.{taken-all, taken-behind, Holding, inputsBy, outcome-holding}
 use Rattle.lawful.specs.Train.{NonEmpty}
 use Rattle.lawful.specs.Payload.{Carry}
-use Rattle.lawful.specs.Lawful.{Given, WellFormed}
+use Rattle.lawful.specs.Lawful.{WellFormed}
 use Rattle.lawful.proofs.Reading.{carried-read}
 
 -- ---- the payload is taken apart as its packet
@@ -51,18 +51,18 @@ wires-given os h = wires-each wireBytes os (all-map wire-given os h)
 
 -- ---- the call
 
-module _ (h : Held) (number : ℕ) (payload store output : List ℕ) (s : Holding h store) (p : Packet) (read : packetOf payload ≡ given p) where
-  pub call-late : ahead h number ≡ false → outcome (stateOf h) number payload store output ≡ refused 14 0
-  call-late e = outcome-holding h number payload store output s ∙ taken-behind (length store) (length output) h number payload p read e
+module _ (h : Held) (p : Incoming) (store output : List ℕ) (s : Holding h store) (q : Packet) (read : packetOf (p .payload) ≡ given q) where
+  pub call-late : ahead h (p .label) ≡ false → outcome (inputsBy h p store output) ≡ refused 14 0
+  call-late e = outcome-holding h p store output s ∙ taken-behind (length store) (length output) h p q read e
 
   -- the first element may join o
-  pub call-taken : (o bytes : List ℕ) → ahead h number ≡ true → joinable h number ≡ o → wires (handed o p) ≡ given bytes
-      → length (keptOpen o p) ≤ length store → length (keptOpen o p) ≤ fragmentLimit → length bytes ≤ length output
-      → outcome (stateOf h) number payload store output ≡ given (record { held = record { begun = true; last = number; fragment = keptOpen o p }; bytes = bytes; lost = lost h number p })
+  pub call-taken : (o bytes : List ℕ) → ahead h (p .label) ≡ true → joinable h (p .label) ≡ o → wires (handed o q) ≡ given bytes
+      → length (keptOpen o q) ≤ length store → length (keptOpen o q) ≤ fragmentLimit → length bytes ≤ length output
+      → outcome (inputsBy h p store output) ≡ given (record { held = holding (p .label) (keptOpen o q); bytes = bytes; lost = lost h (p .label) q })
   unfolding next out
   call-taken o bytes a j w k l m =
-      let n : next h number p ≡ record { begun = true; last = number; fragment = keptOpen o p } = rw (a, j) in
-      let f : (next h number p) .fragment ≡ keptOpen o p = ap (λ (x : Held). x .fragment) n in
-      outcome-holding h number payload store output s
-      ∙ taken-all (length store) (length output) h number payload p read a bytes (rw (a, j) w) (rw f k) (rw f l) m
-      ∙ ap (λ (x : Held). given (record { held = x; bytes = bytes; lost = lost h number p })) n
+      let n : next h (p .label) q ≡ holding (p .label) (keptOpen o q) = rw (a, j) in
+      let f : (next h (p .label) q) .fragment ≡ keptOpen o q = ap (λ (x : Held). x .fragment) n in
+      outcome-holding h p store output s
+      ∙ taken-all (length store) (length output) h p q read a bytes (rw (a, j) w) (rw f k) (rw f l) m
+      ∙ ap (λ (x : Held). given (record { held = x; bytes = bytes; lost = lost h (p .label) q })) n

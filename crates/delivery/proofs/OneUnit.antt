@@ -6,30 +6,30 @@ use mathlib.Core.List.{List, [], _∷_, map, flatMap}
 use mathlib.Core.Bool.{Bool, true, false, not}
 use lib.ListN.{length, getD, length-map}
 use borrow.Author.Tests.{not-true}
-use Rattle.base.specs.Answers.{Answer, given, refused}
-use Rattle.base.specs.Lists.{keep, All}
+use Rattle.base.specs.Answers.{Answer, given, refused, Given}
+use Rattle.base.specs.Lists.{keep, All, joined}
 use Rattle.base.proofs.Tests.{by-cond}
 use Rattle.base.proofs.Lists.{all-map, all-keep, all-of-map, map-all}
 use Rattle.obu.specs.Header.{typeOf, drops}
 use Rattle.obu.specs.Unit.{unitLimit, Placed, scanOf, isKept, keptOf, obusOf}
 use Rattle.obu.specs.Front.{Front}
 use Rattle.obu.specs.Wire.{wholeOf, handedOut, wire, wireOf}
+use Rattle.obu.specs.Records.{noObu}
 use Rattle.obu.specs.declared.Obu.{Obu}
 use Rattle.obu.proofs.Theorems.{wire-sent}
-use Rattle.packetizer.specs.Call.{mtuLimit, sizesOf, unitPlan, planAnswer}
+use Rattle.packetizer.specs.Call.{mtuLimit, sizesOf, unitPlan, toPlan, planAnswer}
 use Rattle.packetizer.specs.Laws.{position, Runs}
 use Rattle.packetizer.specs.declared.Planned.{Planned}
 use Rattle.packetizer.proofs.Laws.{plan-runs}
 use Rattle.packetizer.proofs.UnitLaws.{unit-positive}
-use Rattle.aggregation.specs.Header.{noObu}
-use Rattle.payloader.specs.Payload.{payloadsOf, joined}
+use Rattle.payloader.specs.Payload.{payloadsOf}
 use Rattle.payloader.specs.Call.{written, payloadAnswer}
 use Rattle.payloader.proofs.Calls as calls
 use Rattle.payloader.proofs.Calls.{accepted}
 use Rattle.handing.specs.Handing.{wires}
-use Rattle.lawful.specs.Train.{Piece, Full, closed, runOf, Portion, obus, join, whole}
+use Rattle.lawful.specs.Train.{Piece, Full, closed, packetsOfPieces, Portion, obus, join, whole}
 use Rattle.lawful.specs.Payload.{CarryAll}
-use Rattle.lawful.specs.Lawful.{Given, WellFormed}
+use Rattle.lawful.specs.Lawful.{WellFormed}
 use Rattle.lawful.proofs.Trains.{Chained, cutting, run-cutting, cutting-full, cutting-closed}
 use Rattle.delivery.specs.Arrivals.{inOrder}
 use Rattle.delivery.specs.Units.{Sending, Accepted, every, packetsOf, wholeObus}
@@ -46,7 +46,7 @@ planned-given bytes space (refused n at) g = absurd g
 pub within-limits : (s : Sending) → Accepted s → (length (s .unit) ≤ unitLimit) × (s .mtu ≤ mtuLimit)
 unfolding payloadAnswer
 within-limits s h =
-    let p = planned-given (joined (payloadsOf (s .mtu) (s .unit))) (length (s .output)) (planAnswer (s .mtu) (s .unit) (s .obus) (s .plan)) (h .1) in
+    let p = planned-given (joined (payloadsOf (s .mtu) (s .unit))) (length (s .output)) (planAnswer (toPlan (s .mtu) (s .unit) (s .obus) (s .plan))) (h .1) in
     let a : calls.Accepted (s .mtu) (s .unit) (s .obus) (s .plan) (p .0) = accepted (s .mtu) (s .unit) (s .obus) (s .plan) (p .0) (p .1) in
     (a .small, a .most)
 
@@ -66,7 +66,7 @@ not-dropped (p ∷ ps) (suc i) h l = not-dropped ps i (h .1) (omega arith)
 pub wire-at : (unit : List ℕ) (i : ℕ) → i < length (obusOf unit) → wire (sentAt unit i) ≡ given (wireOf unit (getD (obusOf unit) i noObu))
 wire-at unit i l =
     wire-sent unit (getD (obusOf unit) i noObu)
-    (not-dropped (keptOf unit) i (kept-pass isKept (scanOf unit .obus)) (omega (arith, length-map (keptOf unit) (λ (p : Placed). p .obu))))
+    (not-dropped (keptOf unit) i (kept-pass isKept (scanOf unit .items)) (omega (arith, length-map (keptOf unit) (λ (p : Placed). p .obu))))
 
 wire-formed : (o b : List ℕ) → wire o ≡ given b → WellFormed o
 unfolding wire
@@ -105,10 +105,10 @@ module _ (s : Sending) (h : Accepted s) where
   chained : Chained false (map (packetFor unit) (unitPlan (s .mtu) unit))
   chained = unit-chained unit (unit-positive unit) (s .mtu) (position 0 0) (position (length (sizesOf unit)) 0) (unitPlan (s .mtu) unit) runs
 
-  pub train-run : runOf (trainOf s) ≡ map (packetFor unit) (unitPlan (s .mtu) unit)
+  pub train-run : packetsOfPieces (trainOf s) ≡ map (packetFor unit) (unitPlan (s .mtu) unit)
   train-run = run-cutting false (map (packetFor unit) (unitPlan (s .mtu) unit)) chained
 
-  pub train-length : length (runOf (trainOf s)) ≡ length (unitPlan (s .mtu) unit)
+  pub train-length : length (packetsOfPieces (trainOf s)) ≡ length (unitPlan (s .mtu) unit)
   train-length = ap length train-run ∙ length-map (unitPlan (s .mtu) unit) (packetFor unit)
 
   pub train-full : Full (trainOf s)
@@ -117,7 +117,7 @@ module _ (s : Sending) (h : Accepted s) where
   pub train-closed : closed true (trainOf s) ≡ true
   train-closed = cutting-closed false (map (packetFor unit) (unitPlan (s .mtu) unit)) chained ∙ ap not (unit-last unit (unit-positive unit) (s .mtu) (position 0 0) (position (length (sizesOf unit)) 0) (unitPlan (s .mtu) unit) runs)
 
-  pub train-carried : CarryAll (payloadsOf (s .mtu) unit) (runOf (trainOf s))
+  pub train-carried : CarryAll (payloadsOf (s .mtu) unit) (packetsOfPieces (trainOf s))
   train-carried = rw train-run (unit-carries unit (unit-positive unit) (s .mtu) 0 (position 0 0) (position (length (sizesOf unit)) 0) (unitPlan (s .mtu) unit) (within-limits s h .1) (h .0) (λ z. refl) runs)
 
   pub train-short : All (λ (x : List ℕ). length x ≤ s .mtu) (payloadsOf (s .mtu) unit)

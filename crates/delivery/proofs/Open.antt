@@ -7,8 +7,8 @@ use mathlib.Core.Bool.{Bool, true, false, cond, _&&_, false≢true}
 use lib.ListN.{length, length-append}
 use Rattle.base.specs.Lists.{All}
 use Rattle.receiver.specs.Packet.{Packet}
-use Rattle.receiver.specs.Joining.{joined, left, keptOpen}
-use Rattle.lawful.specs.Train.{Piece, cut, inner, final, Full, closed, packets, runOf, Portion, portion, obus, obusIn, join, whole}
+use Rattle.receiver.specs.Joining.{withFragment, left, keptOpen}
+use Rattle.lawful.specs.Train.{Piece, cut, inner, final, Full, closed, packets, packetsOfPieces, Portion, portion, obus, obusOfPieces, join, whole}
 use Rattle.lawful.proofs.Trains.{join-portion}
 use Rattle.delivery.proofs.Walk.{walk, left-snoc, Ready, start, inside, cut-at}
 
@@ -45,7 +45,7 @@ module _ (Q : List ℕ → Type 0) (q : Q []) where
   wave taken [] k o z (e ∷ es) ps f r h = none-open (taken k) [] tt
   wave taken (cut b ∷ t) k o z es ps f r h =
       rw (r .joins b)
-      (at-cut (taken k) (whole taken ps) (joined o z es) (join ps ++ b) (λ n. walk noted taken (suc k) n (packets true [] t)) (r .lost) (h .0)
+      (at-cut (taken k) (whole taken ps) (withFragment o z es) (join ps ++ b) (λ n. walk noted taken (suc k) n (packets true [] t)) (r .lost) (h .0)
       (λ n e. wave taken t (suc k) n true [] (ps ++ (portion k b ∷ [])) (f .1) (cut-at taken ps k b n (f .0) e) (rw (join-portion ps k b) (h .1))))
   wave taken (inner b ∷ t) k o z es ps f r h = wave taken t k o z (es ++ (b ∷ [])) [] (f .1) (inside o z es b) h
   wave taken (final b ∷ t) k o z es ps f r h = none-open (taken k) _ (wave taken t (suc k) [] false [] [] (f .1) (start []) h)
@@ -71,6 +71,6 @@ module _ (size : ℕ) where
   cuts-small (inner b ∷ t) c k ps e h = cuts-small t false k [] e (h .1)
   cuts-small (final b ∷ t) c k ps e h = cuts-small t true (suc k) [] e (h .1)
 
-  pub walk-noted : (taken : ℕ → Bool) (t : List Piece) → Full t → closed true t ≡ true → All (λ o. Small (join o)) (obusIn t) → All Small (walk noted taken 0 [] (runOf t))
+  pub walk-noted : (taken : ℕ → Bool) (t : List Piece) → Full t → closed true t ≡ true → All (λ o. Small (join o)) (obusOfPieces t) → All Small (walk noted taken 0 [] (packetsOfPieces t))
   unfolding join whole
   walk-noted taken t f c h = wave Small (omega arith) taken t 0 [] false [] [] f (start []) (cuts-small t true 0 [] c h)

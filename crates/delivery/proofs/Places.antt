@@ -3,8 +3,8 @@ use mathlib.Core.Path.{_≡_, refl, sym, ap, _∙_}
 use Prim.Native.Nat.{ℕ, zero, suc}
 use mathlib.Core.List.{List, [], _∷_, _++_, map, flatMap}
 use lib.ListN.{length, getD}
+use Rattle.obu.specs.Records.{noObu}
 use Rattle.obu.specs.declared.Obu.{Obu}
-use Rattle.aggregation.specs.Header.{noObu}
 use Rattle.delivery.specs.Arrivals.{inOrder}
 
 next-order : (f : ℕ → List ℕ) (k n : ℕ) → map f (inOrder (suc k) n) ≡ map (λ (i : ℕ). f (suc i)) (inOrder k n)

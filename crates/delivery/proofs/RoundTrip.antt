@@ -3,49 +3,51 @@
 --     all-go        what one packet finishes has room in `unpack`'s output
 --     round-trip    the theorem
 use mathlib.Core.Path.{_≡_, refl, sym, ap, ap₂, subst, _∙_}
-use Prim.Native.Nat.{ℕ, zero, suc, _+_, _-_, _*_, _/_, _≤_, _<_}
+use Prim.Native.Nat.{ℕ, _+_, _*_, _/_, _≤_, _<_}
 use native.Mathlib.Omega.{arith}
 use mathlib.Core.List.{List, [], _∷_, _++_, append-assoc, append-nil, map, flatMap}
 use mathlib.Core.Bool.{not, _||_}
 use lib.ListN.{length, getD, take, drop, length-take, length-append, replicate, length-replicate}
-use lib.Seq.{getD-drop}
 use lib.Dec.{ltb, eqb}
-use Rattle.base.specs.Answers.{Answer, given, refused}
+use Rattle.base.specs.Answers.{Answer, given, refused, Given}
+use Rattle.base.specs.BigEndian.{valueAt}
 use Rattle.base.specs.Lists.{All}
+use Rattle.base.specs.Streams.{Next}
+use Rattle.base.proofs.BigEndian.{value-below}
 use Rattle.base.proofs.Lists.{all-map, flatMap-append, flatMap-one, all-append, all-left, all-right, all-both, all-of-map}
 use Rattle.base.proofs.Tests.{by-cond}
-use Rattle.obu.specs.Unit.{obuNumbers, Placed, keptOf, obusOf}
+use Rattle.base.proofs.Streams.{Keeps, stream-all}
+use Rattle.obu.specs.Unit.{Placed, keptOf, obusOf}
 use Rattle.obu.specs.Wire.{wireOf}
 use Rattle.obu.specs.Laws.{Inside}
+use Rattle.obu.specs.Records.{obuNumbers}
 use Rattle.obu.specs.declared.Obu.{Obu}
 use Rattle.obu.proofs.Theorems.{kept-inside, wire-small}
-use Rattle.packetizer.specs.Plan.{leastMtu, planNumbers}
+use Rattle.packetizer.specs.Plan.{leastMtu}
 use Rattle.packetizer.specs.Call.{mtuLimit}
+use Rattle.packetizer.specs.Records.{planNumbers}
 use Rattle.payloader.specs.Payload.{payloadsOf}
 use Rattle.payloader.specs.declared.Payloads.{Payloads}
-use Rattle.packing.specs.Pack.{packVersion, headWidth, Head, found, headIn, unitStore, listRecords, outputBytes, unitWidth, nextNumber, numbered, numberAfter, answerIn, Length, over, stated, cut, lengthIn, Units, withUnit, withLength, unitsFrom, unitsBy, packetsOf, trainBy}
+use Rattle.packing.specs.Pack.{packVersion, mtuWidth, headWidth, Head, found, headIn, unitStore, listRecords, outputBytes, unitWidth, nextNumber, numbered, numberAfter, answerIn, Length, over, stated, cut, lengthIn, PackEnd, ended as packEnded, unitBy, unitAfter, unitNext, unitsFrom, unitsBy, packetsOf, trainBy}
 use Rattle.packing.specs.declared.input.PackHead.{PackHead}
-use Rattle.turns.specs.Orders.{nextCount}
 use Rattle.packing.proofs.Reading.{stated-within}
 use Rattle.packing.proofs.Units.{answer-is}
-use Rattle.packing.proofs.Runs.{numbered-append}
-use Rattle.train.specs.Bytes.{valueAfter, valueOf}
-use Rattle.train.specs.Train.{trainVersion, lengthWidth, Packet, Train, ended, trainOf as trainFile, trainIn, standing}
+use Rattle.packing.proofs.Runs.{numbered-append, unit-some}
+use Rattle.train.specs.Train.{trainHead, numberWidth, Numbered, Records, ended, trainOf as trainFile, trainIn, standing}
 use Rattle.train.specs.Laws.{AllFit}
-use Rattle.train.proofs.Written.{written-read}
+use Rattle.train.proofs.Written.{head-taken, written-read}
 use Rattle.receiver.specs.Joining.{fresh}
-use Rattle.receiver.specs.Call.{Taken, stateOf}
+use Rattle.receiver.specs.Call.{Taken}
 use Rattle.receiver.proofs.Laws.{holding-fresh}
 use Rattle.unpacking.specs.Unpack.{fragmentStore, writtenFor, unpackedFrom, unpackOf}
 use Rattle.lawful.specs.Train as lawful
-use Rattle.lawful.specs.Train.{runOf}
+use Rattle.lawful.specs.Train.{packetsOfPieces}
 use Rattle.lawful.specs.Payload.{CarryAll}
-use Rattle.lawful.specs.Lawful.{Given}
 use Rattle.delivery.specs.Arrivals.{number}
-use Rattle.delivery.specs.Calls.{takes, calls, handedOut, verdicts}
-use Rattle.delivery.specs.Units.{Sending, Accepted, payloadsSent}
+use Rattle.delivery.specs.Calls.{takes, freshCalls, handedOut, verdicts}
+use Rattle.delivery.specs.Units.{Sending, Accepted, payloadsSent, sentFrom}
 use Rattle.delivery.specs.RoundTrip.{wireBytesOf, RoundTrip}
-use Rattle.delivery.proofs.Turns.{turns, heldThen, turns-append, unpacked-turns, Goes, turns-room, arriving, arriving-packets, arriving-outputs, callBy, calls-turns, turns-out, turns-go}
+use Rattle.delivery.proofs.Turns.{turns, heldThen, turns-append, unpacked-turns, Goes, turns-room, arriving, arriving-packets, arriving-outputs, turnCall, calls-turns, turns-out, turns-go}
 use Rattle.delivery.proofs.OneUnit.{within-limits, trainOf, train-carried, train-short}
 use Rattle.delivery.proofs.UnitsTheorem.{units-no-loss}
 
@@ -55,30 +57,32 @@ use Rattle.delivery.proofs.UnitsTheorem.{units-no-loss}
 abbrev Good : ℕ → List ℕ → Type 0
 Good mtu u = Given (answerIn listRecords listRecords outputBytes mtu u) × (length u ≤ unitStore)
 
+-- nothing has to be known of the bytes that begin with it
+abbrev GoodNext : ℕ → List ℕ → Next (List ℕ) PackEnd ℕ → Type 0
+GoodNext mtu = Keeps (Good mtu) (λ i l. Unit {0})
+
 module _ (mtu : ℕ) where
-  with-unit : (i : ℕ) (u : List ℕ) (a : Answer Payloads) → a ≡ answerIn listRecords listRecords outputBytes mtu u → length u ≤ unitStore
-      → (rest : Units) → All (Good mtu) (rest .units) → All (Good mtu) (withUnit i u a rest .units)
-  with-unit i u (given p) e s rest r = ((subst Given e tt, s), r)
-  with-unit i u (refused k at) e s rest r = tt
+  with-unit : (i span : ℕ) (l u : List ℕ) (a : Answer Payloads) → a ≡ answerIn listRecords listRecords outputBytes mtu u → length u ≤ unitStore
+      → GoodNext mtu l (unitBy i span u a)
+  with-unit i span l u (given p) e s = ((subst Given e tt, s), tt)
+  with-unit i span l u (refused k at) e s = tt
 
-  with-length : (i : ℕ) (l : List ℕ) (x : Length) → x ≡ lengthIn l → (rest : ℕ → Units) → ((n : ℕ) → All (Good mtu) (rest n .units)) → All (Good mtu) (withLength mtu i l x rest .units)
-  with-length i l over e rest r = tt
-  with-length i l cut e rest r = tt
-  with-length i l (stated s) e rest r =
-      by-cond (λ (x : Units). All (Good mtu) (x .units)) (ltb (length (drop unitWidth l)) s) _ _ (λ t. tt)
+  with-length : (i : ℕ) (l : List ℕ) (x : Length) → x ≡ lengthIn l → GoodNext mtu l (unitAfter mtu i l x)
+  with-length i l over e = tt
+  with-length i l cut e = tt
+  with-length i l (stated s) e =
+      by-cond (GoodNext mtu l) (ltb (length (drop unitWidth l)) s) _ _ (λ t. tt)
       (λ t.
-      with-unit i (take s (drop unitWidth l)) (answerIn listRecords listRecords outputBytes mtu (take s (drop unitWidth l))) refl
-      (omega (arith, length-take s (drop unitWidth l), stated-within l s e)) (rest (unitWidth + s)) (r (unitWidth + s)))
+      with-unit i (unitWidth + s) l (take s (drop unitWidth l)) (answerIn listRecords listRecords outputBytes mtu (take s (drop unitWidth l))) refl
+      (omega (arith, length-take s (drop unitWidth l), stated-within l s e)))
 
-  units-good : (i : ℕ) (l : List ℕ) (skip : ℕ) → All (Good mtu) (unitsFrom mtu i l skip .units)
-  unfolding unitsFrom
-  units-good i [] skip = tt
-  units-good i (b ∷ l) (suc skip) = units-good i l skip
-  units-good i (b ∷ l) zero = with-length i (b ∷ l) (lengthIn (b ∷ l)) refl (λ span. unitsFrom mtu (nextCount i) l (span - 1)) (λ n. units-good (nextCount i) l (n - 1))
+  units-good : (i : ℕ) (l : List ℕ) → All (Good mtu) (unitsFrom mtu i l .items)
+  units-good i l =
+      stream-all (unitNext mtu) packEnded (unit-some mtu) (Good mtu) (λ j m. Unit {0}) (λ j m h q. with-length j m (lengthIn m) refl) l i tt
 
 -- ---- lists
 
-verdicts-right : (l m : List (Answer Taken)) → All (λ v. v ≡ takes) (verdicts (map callBy (l ++ m))) → All (λ v. v ≡ takes) (verdicts (map callBy m))
+verdicts-right : (l m : List (Answer Taken)) → All (λ v. v ≡ takes) (verdicts (map turnCall (l ++ m))) → All (λ v. v ≡ takes) (verdicts (map turnCall m))
 verdicts-right [] m a = a
 verdicts-right (x ∷ l) m a = verdicts-right l m (a .1)
 
@@ -149,20 +153,20 @@ module _ (mtu : ℕ) (least : leastMtu ≤ mtu) where
     abbrev room : ℕ
     room = unitStore + 4 * mtu
 
-    packets : List (List ℕ) → List Packet
+    packets : List (List ℕ) → List Numbered
     packets us = numbered (number first 0) (payloadsSent (sendings us))
 
     made : List (List ℕ) → List (Answer Taken)
     made us = turns fragmentStore room fresh (packets us)
 
     -- the calls of the theorem with no loss
-    calls-made : (us : List (List ℕ)) → calls (payloadsSent (sendings us)) first (stateOf fresh) (zeros fragmentStore) (arriving (zeros room) 0 (length (payloadsSent (sendings us)))) ≡ map callBy (made us)
+    calls-made : (us : List (List ℕ)) → freshCalls (sentFrom first (sendings us)) (zeros fragmentStore) (arriving (zeros room) 0 (length (payloadsSent (sendings us)))) ≡ map turnCall (made us)
     unfolding made packets
     calls-made us =
-        calls-turns (payloadsSent (sendings us)) first (zeros room) (payloadsSent (sendings us)) 0 fresh (zeros fragmentStore) refl (holding-fresh (zeros fragmentStore))
-        ∙ ap₂ (λ (a b : ℕ). map callBy (turns a b fresh (numbered (number first 0) (payloadsSent (sendings us))))) (zeros-length fragmentStore) (zeros-length room)
+        calls-turns (sentFrom first (sendings us)) (zeros room) (payloadsSent (sendings us)) 0 fresh (zeros fragmentStore) refl (holding-fresh (zeros fragmentStore))
+        ∙ ap₂ (λ (a b : ℕ). map turnCall (turns a b fresh (numbered (number first 0) (payloadsSent (sendings us))))) (zeros-length fragmentStore) (zeros-length room)
 
-    made-of : (us : List (List ℕ)) → All (Good mtu) us → (flatMap writtenFor (made us) ≡ wireBytesOf us) × All (λ v. v ≡ takes) (verdicts (map callBy (made us)))
+    made-of : (us : List (List ℕ)) → All (Good mtu) us → (flatMap writtenFor (made us) ≡ wireBytesOf us) × All (λ v. v ≡ takes) (verdicts (map turnCall (made us)))
     made-of us g =
         let n : ℕ = length (payloadsSent (sendings us)) in
         let d =
@@ -204,7 +208,7 @@ module _ (mtu : ℕ) (least : leastMtu ≤ mtu) where
         let n : length (flatMap writtenFor (m .0)) ≡ length (wireBytesOf (u ∷ [])) =
         omega (arith, ap length w, length-append (flatMap writtenFor (made us)) (flatMap writtenFor (m .0)), length-append (wireBytesOf us) (wireBytesOf (u ∷ [])), ap length (before .0)) in
         let k : length (wireBytesOf (u ∷ [])) ≡ length (flatMap (wireOf u) (obusOf u)) = ap length (flatMap-one _ u) in
-        let v = subst (λ (l : List (Answer Taken)). All (λ x. x ≡ takes) (verdicts (map callBy l))) (m .1) (now .1) in
+        let v = subst (λ (l : List (Answer Taken)). All (λ x. x ≡ takes) (verdicts (map turnCall l))) (m .1) (now .1) in
         rw (m .1)
         (all-append (Goes outputBytes) (made us) (m .0) a
         (turns-go outputBytes (m .0) (verdicts-right (made us) (m .0) v) (omega (arith, n, k, small, good .1))))
@@ -231,27 +235,16 @@ sized [] h = tt
 sized (s ∷ ss) h =
     all-append (λ (b : List ℕ). (1 ≤ length b) × (length b ≤ mtuLimit)) (payloadsOf (s .mtu) (s .unit)) (payloadsSent ss)
     (all-both (λ (b : List ℕ). 1 ≤ length b) (λ (b : List ℕ). length b ≤ mtuLimit) (payloadsOf (s .mtu) (s .unit))
-    (carried-some (payloadsOf (s .mtu) (s .unit)) (runOf (trainOf s)) (train-carried s (h .0)))
+    (carried-some (payloadsOf (s .mtu) (s .unit)) (packetsOfPieces (trainOf s)) (train-carried s (h .0)))
     (all-map (λ (b : List ℕ) (m : length b ≤ s .mtu). omega (arith, m, within-limits s (h .0) .1)) (payloadsOf (s .mtu) (s .unit)) (train-short s (h .0))))
     (sized ss (h .1))
 
-all-fit : (n : ℕ) (ps : List (List ℕ)) → n < 65536 → All (λ (b : List ℕ). (1 ≤ length b) × (length b ≤ mtuLimit)) ps → AllFit lengthWidth (numbered n ps)
+all-fit : (n : ℕ) (ps : List (List ℕ)) → n < 65536 → All (λ (b : List ℕ). (1 ≤ length b) × (length b ≤ mtuLimit)) ps → AllFit (trainHead .width) (numbered n ps)
 unfolding numbered
 all-fit n [] l h = tt
 all-fit n (p ∷ ps) l h = (record { numbered = l; some = h .0 .0; short = omega (arith, h .0 .1) }, all-fit (nextNumber n) ps (omega arith) (h .1))
 
 -- ---- the theorem
-
-bytes-at : (l : List ℕ) → All (λ b. b < 256) l → (i : ℕ) → getD l i 0 < 256
-bytes-at [] h i = omega arith
-bytes-at (b ∷ l) h zero = h .0
-bytes-at (b ∷ l) h (suc i) = bytes-at l (h .1) i
-
-two-small : (l : List ℕ) → ((i : ℕ) → getD l i 0 < 256) → valueOf (take 2 l) < 65536
-unfolding valueAfter
-two-small [] h = omega arith
-two-small (a ∷ []) h = omega (arith, h 0)
-two-small (a ∷ b ∷ l) h = omega (arith, h 0, h 1)
 
 first-small : (l : List ℕ) → All (λ b. b < 256) l → (h : PackHead) → headIn l ≡ found h → h .first < 65536
 unfolding headIn
@@ -259,12 +252,12 @@ first-small l b h e =
     by-cond (λ (x : Head). x ≡ found h → h .first < 65536) (ltb (length l) headWidth || not (eqb (getD l 0 0) packVersion)) _ _
     (λ t q. let z : _≡_ {A = ℕ} 0 1 = cc in absurd (omega arith))
     (λ t q.
-    let f : record { mtu = valueOf (take 2 (drop 1 l)); first = valueOf (take 2 (drop 3 l)) } ≡ h = cc in
-    subst (λ (n : ℕ). n < 65536) (ap (λ (x : PackHead). x .first) f) (two-small (drop 3 l) (λ i. rw (getD-drop 3 l i 0) (bytes-at l b (3 + i)))))
+    let f : record { mtu = valueAt l 1 mtuWidth; first = valueAt l (1 + mtuWidth) numberWidth } ≡ h = cc in
+    subst (λ (n : ℕ). n < 65536) (ap (λ (x : PackHead). x .first) f) (value-below l (1 + mtuWidth) numberWidth b))
     e
 
-unpacked : (file : List ℕ) (ps : List Packet) → trainIn lengthWidth file ≡ given (record { packets = ps; stop = ended }) → unpackOf file ≡ unpackedFrom fresh ps
-unpacked file ps e = ap (λ (t : Answer Train). unpackedFrom fresh (standing t)) e
+unpacked : (file : List ℕ) (ps : List Numbered) → trainIn file ≡ given (record { items = ps; stop = ended }) → unpackOf file ≡ unpackedFrom fresh ps
+unpacked file ps e = ap (λ (t : Answer Records). unpackedFrom fresh (standing t)) e
 
 module _ (h : PackHead) (least : leastMtu ≤ h .mtu) (small : h .first < 65536) (us : List (List ℕ)) (good : All (Good (h .mtu)) us) where
   numbers : number (h .first) 0 ≡ h .first
@@ -274,7 +267,7 @@ module _ (h : PackHead) (least : leastMtu ≤ h .mtu) (small : h .first < 65536)
   unfolding packets
   the-packets = ap₂ numbered numbers (sent-payloads (h .mtu) least us)
 
-  fit : AllFit lengthWidth (packets (h .mtu) least (h .first) us)
+  fit : AllFit (trainHead .width) (packets (h .mtu) least (h .first) us)
   unfolding packets
   fit = all-fit (number (h .first) 0) (payloadsSent (sendings (h .mtu) least us)) (omega arith) (sized (sendings (h .mtu) least us) (accepted (h .mtu) least us good))
 
@@ -282,12 +275,12 @@ module _ (h : PackHead) (least : leastMtu ≤ h .mtu) (small : h .first < 65536)
   unfolding made packets sendings numbered turns flatMap
   none = tt
 
-  packed-unpacked : unpackOf (trainFile lengthWidth trainVersion (packetsOf h us)) ≡ wireBytesOf us
+  packed-unpacked : unpackOf (trainFile trainHead (packetsOf h us)) ≡ wireBytesOf us
   unfolding made
   packed-unpacked =
-      unpacked (trainFile lengthWidth trainVersion (packetsOf h us)) (packetsOf h us)
-      (written-read lengthWidth (packetsOf h us)
-      (subst (AllFit lengthWidth) the-packets fit))
+      unpacked (trainFile trainHead (packetsOf h us)) (packetsOf h us)
+      (written-read trainHead (packetsOf h us) head-taken
+      (subst (AllFit (trainHead .width)) the-packets fit))
       ∙ sym (ap (unpackedFrom fresh) the-packets)
       ∙ unpacked-turns fresh (packets (h .mtu) least (h .first) us)
       ∙ ap (flatMap writtenFor) (turns-room fragmentStore (room (h .mtu) least (h .first)) outputBytes fresh (packets (h .mtu) least (h .first) us) (all-go (h .mtu) least (h .first) us [] good none))
@@ -295,7 +288,7 @@ module _ (h : PackHead) (least : leastMtu ≤ h .mtu) (small : h .first < 65536)
 
 pub round-trip : RoundTrip
 round-trip input h bytes e least =
-    let us : List (List ℕ) = unitsFrom (h .mtu) 0 (drop headWidth input) 0 .units in
-    ap (λ (x : Head). unpackOf (trainBy (unitsBy (drop headWidth input) x .units) x)) e
-    ∙ packed-unpacked h least (first-small input bytes h e) us (units-good (h .mtu) 0 (drop headWidth input) 0)
-    ∙ sym (ap (λ (x : Head). wireBytesOf (unitsBy (drop headWidth input) x .units)) e)
+    let us : List (List ℕ) = unitsFrom (h .mtu) 0 (drop headWidth input) .items in
+    ap (λ (x : Head). unpackOf (trainBy (unitsBy (drop headWidth input) x .items) x)) e
+    ∙ packed-unpacked h least (first-small input bytes h e) us (units-good (h .mtu) 0 (drop headWidth input))
+    ∙ sym (ap (λ (x : Head). wireBytesOf (unitsBy (drop headWidth input) x .items)) e)

@@ -9,10 +9,10 @@ use Rattle.base.proofs.Tests.{by-cond}
 use Rattle.base.proofs.Lists.{flatMap-append}
 use Rattle.obu.specs.Unit.{obusOf}
 use Rattle.obu.specs.Wire.{wireOf}
+use Rattle.obu.specs.Records.{noObu}
 use Rattle.packetizer.specs.Call.{unitPlan}
-use Rattle.aggregation.specs.Header.{noObu}
 use Rattle.delivery.specs.Arrivals.{timely, inOrder}
-use Rattle.delivery.specs.Calls.{packetsIn}
+use Rattle.delivery.specs.Calls.{arrivedPackets}
 use Rattle.delivery.specs.Units.{Sending, packetsOf, every, wholeObus, expected}
 use Rattle.delivery.specs.Trains.{Train, Sound, unpacked, wiresOf, Some, none, this, other, OfItsOwn, TwoTrains}
 use Rattle.delivery.proofs.Places.{in-order-map, flatMap-self}
@@ -54,7 +54,7 @@ module _ (test : ℕ → Bool) where
 own : (t : Train) → Sound t → OfItsOwn t (unpacked t)
 own t s =
     let d = units-delivery (t .sendings) (t .first) (t .size) (t .mtu) (t .store) (t .arrivals) (s .accepted) (s .near) (s .space) in
-    let e = expected-own (timely (packetsIn (t .arrivals))) 0 (t .sendings) in
+    let e = expected-own (timely (arrivedPackets (t .arrivals))) 0 (t .sendings) in
     (e .0, e .1, d .out ∙ e .2)
 
 pub two-trains : TwoTrains

@@ -11,41 +11,41 @@ use borrow.Author.Tests.{le-ltb}
 use Rattle.base.specs.Answers.{Answer, given, refused}
 use Rattle.base.specs.Lists.{front, All}
 use Rattle.element.specs.Elements.{payloadLimit}
-use Rattle.train.specs.Train.{Packet}
+use Rattle.train.specs.Train.{Numbered}
 use Rattle.packing.specs.Pack.{nextNumber, numbered}
-use Rattle.handing.specs.Handing.{fragmentLimit, wires}
+use Rattle.handing.specs.Handing.{wires}
 use Rattle.receiver.specs.Packet as apart
 use Rattle.receiver.specs.Packet.{packetOf}
-use Rattle.receiver.specs.Joining.{Held, Lost, ahead, lost, next, out}
-use Rattle.receiver.specs.Call.{Taken, fitted, opened, taken, stateOf, outcome, answered, storeBy, outputBy}
-use Rattle.receiver.proofs.Laws.{Holding, outcome-holding, holding-next}
-use Rattle.unpacking.specs.Unpack.{fragmentStore, outputBytes, heldAfter, writtenFor, unpackedFrom}
+use Rattle.receiver.specs.Joining.{Label, Held, ahead, out}
+use Rattle.receiver.specs.Call.{Incoming, Taken, tooLong, fitted, leadsTo, wired, opened, taken, stateOf, outcome, answering, after, answered}
+use Rattle.receiver.proofs.Laws.{Holding, inputsBy, outcome-holding, holding-next}
+use Rattle.unpacking.specs.Unpack.{fragmentStore, outputBytes, incoming, turn, heldAfter, writtenFor, unpackedFrom}
 use Rattle.delivery.specs.Arrivals.{number, inOrder}
-use Rattle.delivery.specs.Calls.{Arrival, packetsIn, Call, stateAfter, bytesBy, takes, calls, handedOut, verdicts}
+use Rattle.delivery.specs.Calls.{Arrival, arrivedPackets, Call, stateAfter, takes, Run, callBy, calls, handedOut, verdicts}
 
 -- ---- what is made of each packet, with so much space in the store and so much room in the output
 
-unfoldable pub turns : ℕ → ℕ → Held → List Packet → List (Answer Taken)
+unfoldable pub turns : ℕ → ℕ → Held → List Numbered → List (Answer Taken)
 turns space room h [] = []
-turns space room h (p ∷ ps) = taken space room h (p .number) (p .payload) ∷ turns space room (heldAfter h (taken space room h (p .number) (p .payload))) ps
+turns space room h (p ∷ ps) = taken space room h (incoming p) ∷ turns space room (heldAfter h (taken space room h (incoming p))) ps
 
 -- what is held after them
-pub heldThen : ℕ → ℕ → Held → List Packet → Held
+pub heldThen : ℕ → ℕ → Held → List Numbered → Held
 heldThen space room h [] = h
-heldThen space room h (p ∷ ps) = heldThen space room (heldAfter h (taken space room h (p .number) (p .payload))) ps
+heldThen space room h (p ∷ ps) = heldThen space room (heldAfter h (taken space room h (incoming p))) ps
 
-pub turns-append : (space room : ℕ) (h : Held) (ps qs : List Packet) → turns space room h (ps ++ qs) ≡ turns space room h ps ++ turns space room (heldThen space room h ps) qs
+pub turns-append : (space room : ℕ) (h : Held) (ps qs : List Numbered) → turns space room h (ps ++ qs) ≡ turns space room h ps ++ turns space room (heldThen space room h ps) qs
 unfolding turns heldThen
 turns-append space room h [] qs = refl
 turns-append space room h (p ∷ ps) qs =
-    let a : Answer Taken = taken space room h (p .number) (p .payload) in
+    let a : Answer Taken = taken space room h (incoming p) in
     ap (λ (l : List (Answer Taken)). a ∷ l) (turns-append space room (heldAfter h a) ps qs)
 
-pub unpacked-turns : (h : Held) (ps : List Packet) → unpackedFrom h ps ≡ flatMap writtenFor (turns fragmentStore outputBytes h ps)
+pub unpacked-turns : (h : Held) (ps : List Numbered) → unpackedFrom h ps ≡ flatMap writtenFor (turns fragmentStore outputBytes h ps)
 unfolding turns unpackedFrom flatMap
 unpacked-turns h [] = refl
 unpacked-turns h (p ∷ ps) =
-    let a : Answer Taken = taken fragmentStore outputBytes h (p .number) (p .payload) in
+    let a : Answer Taken = turn h p in
     ap (λ (l : List ℕ). writtenFor a ++ l) (unpacked-turns (heldAfter h a) ps)
 
 -- ---- a shorter output does as well, if what goes out has room in it
@@ -55,39 +55,40 @@ Goes room (given t) = length (t .bytes) ≤ room
 Goes room (refused n at) = ⊥
 
 module _ (space room room′ : ℕ) where
-  fitted-room : (after : Held) (gone : Lost) (w : Answer (List ℕ)) → Goes room′ (fitted space room after gone w) → fitted space room′ after gone w ≡ fitted space room after gone w
-  fitted-room after gone (refused n at) g = refl
-  fitted-room after gone (given bytes) g = go (ltb space (length (after .fragment)) || ltb fragmentLimit (length (after .fragment))) (ltb room (length bytes)) g
+  fitted-room : (t : Taken) → Goes room′ (fitted space room t) → fitted space room′ t ≡ fitted space room t
+  fitted-room t g = go (tooLong space (length (t .held .fragment))) (ltb room (length (t .bytes))) g
     where
-      all : Answer Taken
-      all = given (record { held = after; bytes = bytes; lost = gone })
-
-      go : (a b : Bool) → Goes room′ (cond a (refused 19 0) (cond b (refused 20 0) all)) → cond a (refused 19 0) (cond (ltb room′ (length bytes)) (refused 20 0) all) ≡ cond a (refused 19 0) (cond b (refused 20 0) all)
+      go : (a b : Bool) → Goes room′ (cond a (refused 19 0) (cond b (refused 20 0) (given t)))
+          → cond a (refused 19 0) (cond (ltb room′ (length (t .bytes))) (refused 20 0) (given t)) ≡ cond a (refused 19 0) (cond b (refused 20 0) (given t))
       go true b f = absurd f
       go false true f = absurd f
-      go false false f = rw (le-ltb room′ (length bytes) f)
+      go false false f = rw (le-ltb room′ (length (t .bytes)) f)
 
-  opened-room : (h : Held) (n : ℕ) (x : Answer apart.Packet) → Goes room′ (opened space room h n x) → opened space room′ h n x ≡ opened space room h n x
-  opened-room h n (given p) g = fitted-room (next h n p) (lost h n p) (wires (out h n p)) g
-  opened-room h n (refused k at) g = refl
+  wired-room : (h : Held) (l : Label) (p : apart.Packet) (w : Answer (List ℕ)) → Goes room′ (wired space room h l p w) → wired space room′ h l p w ≡ wired space room h l p w
+  wired-room h l p (given bytes) g = fitted-room (leadsTo h l p bytes) g
+  wired-room h l p (refused n at) g = refl
 
-  taken-room : (h : Held) (n : ℕ) (payload : List ℕ) → Goes room′ (taken space room h n payload) → taken space room′ h n payload ≡ taken space room h n payload
+  opened-room : (h : Held) (l : Label) (x : Answer apart.Packet) → Goes room′ (opened space room h l x) → opened space room′ h l x ≡ opened space room h l x
+  opened-room h l (given p) g = wired-room h l p (wires (out h l p)) g
+  opened-room h l (refused k at) g = refl
+
+  taken-room : (h : Held) (p : Incoming) → Goes room′ (taken space room h p) → taken space room′ h p ≡ taken space room h p
   unfolding taken
-  taken-room h n payload g = go (eqb (length payload) 0 || ltb payloadLimit (length payload)) (ahead h n) g
+  taken-room h p g = go (eqb (length (p .payload)) 0 || ltb payloadLimit (length (p .payload))) (ahead h (p .label)) g
     where
-      go : (a b : Bool) → Goes room′ (cond a (refused 13 0) (cond b (opened space room h n (packetOf payload)) (refused 14 0)))
-          → cond a (refused 13 0) (cond b (opened space room′ h n (packetOf payload)) (refused 14 0))
-          ≡ cond a (refused 13 0) (cond b (opened space room h n (packetOf payload)) (refused 14 0))
+      go : (a b : Bool) → Goes room′ (cond a (refused 13 0) (cond b (opened space room h (p .label) (packetOf (p .payload))) (refused 14 0)))
+          → cond a (refused 13 0) (cond b (opened space room′ h (p .label) (packetOf (p .payload))) (refused 14 0))
+          ≡ cond a (refused 13 0) (cond b (opened space room h (p .label) (packetOf (p .payload))) (refused 14 0))
       go true b f = absurd f
-      go false true f = opened-room h n (packetOf payload) f
+      go false true f = opened-room h (p .label) (packetOf (p .payload)) f
       go false false f = absurd f
 
-  pub turns-room : (h : Held) (ps : List Packet) → All (Goes room′) (turns space room h ps) → turns space room′ h ps ≡ turns space room h ps
+  pub turns-room : (h : Held) (ps : List Numbered) → All (Goes room′) (turns space room h ps) → turns space room′ h ps ≡ turns space room h ps
   unfolding turns
   turns-room h [] g = refl
   turns-room h (p ∷ ps) g =
-      let a : Answer Taken = taken space room h (p .number) (p .payload) in
-      rw (taken-room h (p .number) (p .payload) (g .0)) (ap (λ (l : List (Answer Taken)). a ∷ l) (turns-room (heldAfter h a) ps (g .1)))
+      let a : Answer Taken = taken space room h (incoming p) in
+      rw (taken-room h (incoming p) (g .0)) (ap (λ (l : List (Answer Taken)). a ∷ l) (turns-room (heldAfter h a) ps (g .1)))
 
 -- ---- the calls of a run with no loss
 
@@ -95,7 +96,7 @@ module _ (space room room′ : ℕ) where
 pub arriving : List ℕ → ℕ → ℕ → List Arrival
 arriving out k n = map (λ (i : ℕ). record { packet = i; output = out }) (inOrder k n)
 
-pub arriving-packets : (out : List ℕ) (k n : ℕ) → packetsIn (arriving out k n) ≡ inOrder k n
+pub arriving-packets : (out : List ℕ) (k n : ℕ) → arrivedPackets (arriving out k n) ≡ inOrder k n
 unfolding arriving inOrder
 arriving-packets out k zero = refl
 arriving-packets out k (suc n) = ap (λ (l : List ℕ). k ∷ l) (arriving-packets out (suc k) n)
@@ -105,62 +106,66 @@ unfolding arriving inOrder
 arriving-outputs P out k zero p = tt
 arriving-outputs P out k (suc n) p = (p, arriving-outputs P out (suc k) n p)
 
-abbrev pub callBy : Answer Taken → Call
-callBy a = record { answer = answered a; bytes = writtenFor a }
+abbrev pub turnCall : Answer Taken → Call
+turnCall a = record { answer = answered a; bytes = writtenFor a }
 
-module _ (all : List (List ℕ)) (first : ℕ) (output : List ℕ) where
+module _ (sent : Run) (output : List ℕ) where
   -- a call by its outcome, and the calls after it
   by-outcome : Held → List ℕ → List Arrival → Answer Taken → List Call
   by-outcome h store rest a =
-      record { answer = answered a; bytes = bytesBy (answered a) (outputBy a output) } ∷ calls all first (stateAfter (stateOf h) (answered a)) (storeBy a store) rest
+      let x = answering answered (after a store output) in
+      callBy x ∷ calls sent (stateAfter (stateOf h) (x .answer)) (x .store) rest
 
-  pub calls-turns : (ps : List (List ℕ)) (k : ℕ) (h : Held) (store : List ℕ) → drop k all ≡ ps → Holding h store
-      → calls all first (stateOf h) store (arriving output k (length ps)) ≡ map callBy (turns (length store) (length output) h (numbered (number first k) ps))
+  pub calls-turns : (ps : List (List ℕ)) (k : ℕ) (h : Held) (store : List ℕ) → drop k (sent .payloads) ≡ ps → Holding h store
+      → calls sent (stateOf h) store (arriving output k (length ps)) ≡ map turnCall (turns (length store) (length output) h (numbered (number (sent .first) k) ps))
   unfolding calls arriving inOrder turns numbered by-outcome
   calls-turns [] k h store d s = refl
   calls-turns (p ∷ ps) k h store d s =
-      ap (by-outcome h store (arriving output (suc k) (length ps))) (ap (λ (b : List ℕ). outcome (stateOf h) n b store output) here ∙ held)
-      ∙ go (λ h′ store′ s′. calls-turns ps (suc k) h′ store′ after s′) (taken (length store) (length output) h n p) refl
+      ap (by-outcome h store (arriving output (suc k) (length ps))) (ap (λ (b : List ℕ). outcome (inputsBy h (incoming (record { number = n; payload = b })) store output)) here ∙ held)
+      ∙ go (λ h′ store′ s′. calls-turns ps (suc k) h′ store′ rest s′) (taken (length store) (length output) h (incoming (record { number = n; payload = p }))) refl
     where
       n : ℕ
-      n = number first k
+      n = number (sent .first) k
 
-      here : getD all k [] ≡ p
-      here = let z : k + 0 ≡ k = omega arith in sym (getD-drop k all 0 [] ∙ ap (λ (i : ℕ). getD all i []) z) ∙ ap (λ (l : List (List ℕ)). getD l 0 []) d
+      here : getD (sent .payloads) k [] ≡ p
+      here = let z : k + 0 ≡ k = omega arith in sym (getD-drop k (sent .payloads) 0 [] ∙ ap (λ (i : ℕ). getD (sent .payloads) i []) z) ∙ ap (λ (l : List (List ℕ)). getD l 0 []) d
 
-      after : drop (suc k) all ≡ ps
-      after = let z : k + 1 ≡ suc k = omega arith in sym (drop-drop 1 k all ∙ ap (λ (i : ℕ). drop i all) z) ∙ ap (drop 1) d
+      rest : drop (suc k) (sent .payloads) ≡ ps
+      rest = let z : k + 1 ≡ suc k = omega arith in sym (drop-drop 1 k (sent .payloads) ∙ ap (λ (i : ℕ). drop i (sent .payloads)) z) ∙ ap (drop 1) d
 
-      counts : number first (suc k) ≡ nextNumber n
+      counts : number (sent .first) (suc k) ≡ nextNumber n
       counts = omega arith
 
-      held : outcome (stateOf h) n p store output ≡ taken (length store) (length output) h n p
-      held = outcome-holding h n p store output s
+      came : Incoming
+      came = incoming (record { number = n; payload = p })
+
+      held : outcome (inputsBy h came store output) ≡ taken (length store) (length output) h came
+      held = outcome-holding h came store output s
 
       go : ((h′ : Held) (store′ : List ℕ) → Holding h′ store′
-          → calls all first (stateOf h′) store′ (arriving output (suc k) (length ps)) ≡ map callBy (turns (length store′) (length output) h′ (numbered (number first (suc k)) ps)))
-          → (a : Answer Taken) → taken (length store) (length output) h n p ≡ a
+          → calls sent (stateOf h′) store′ (arriving output (suc k) (length ps)) ≡ map turnCall (turns (length store′) (length output) h′ (numbered (number (sent .first) (suc k)) ps)))
+          → (a : Answer Taken) → taken (length store) (length output) h came ≡ a
           → by-outcome h store (arriving output (suc k) (length ps)) a
-          ≡ callBy a ∷ map callBy (turns (length store) (length output) (heldAfter h a) (numbered (nextNumber n) ps))
+          ≡ turnCall a ∷ map turnCall (turns (length store) (length output) (heldAfter h a) (numbered (nextNumber n) ps))
       go again (given t) e =
-          let f = holding-next h n p store output s t e in
+          let f = holding-next h came store output s t e in
           ap₂ (λ (b : List ℕ) (l : List Call). record { answer = answered (given t); bytes = b } ∷ l)
           (take-append-seam (t .bytes) (drop (length (t .bytes)) output))
           (again (t .held) (front (t .held .fragment) store) (f .0)
-          ∙ ap₂ (λ (m i : ℕ). map callBy (turns m (length output) (t .held) (numbered i ps))) (f .1) counts)
+          ∙ ap₂ (λ (m i : ℕ). map turnCall (turns m (length output) (t .held) (numbered i ps))) (f .1) counts)
       go again (refused x at) e =
-          ap (λ (l : List Call). callBy (refused x at) ∷ l)
-          (again h store s ∙ ap (λ (i : ℕ). map callBy (turns (length store) (length output) h (numbered i ps))) counts)
+          ap (λ (l : List Call). turnCall (refused x at) ∷ l)
+          (again h store s ∙ ap (λ (i : ℕ). map turnCall (turns (length store) (length output) h (numbered i ps))) counts)
 
 -- what they hand out, and what they say
 
-pub turns-out : (l : List (Answer Taken)) → handedOut (map callBy l) ≡ flatMap writtenFor l
+pub turns-out : (l : List (Answer Taken)) → handedOut (map turnCall l) ≡ flatMap writtenFor l
 unfolding flatMap
 turns-out [] = refl
 turns-out (a ∷ l) = ap (λ (b : List ℕ). writtenFor a ++ b) (turns-out l)
 
 -- where none is refused, each hands out a part of what all hand out
-pub turns-go : (room : ℕ) (l : List (Answer Taken)) → All (λ v. v ≡ takes) (verdicts (map callBy l)) → length (flatMap writtenFor l) ≤ room → All (Goes room) l
+pub turns-go : (room : ℕ) (l : List (Answer Taken)) → All (λ v. v ≡ takes) (verdicts (map turnCall l)) → length (flatMap writtenFor l) ≤ room → All (Goes room) l
 unfolding flatMap
 turns-go room [] v m = tt
 turns-go room (given t ∷ l) v m = (omega (arith, length-append (t .bytes) (flatMap writtenFor l)), turns-go room l (v .1) (omega (arith, length-append (t .bytes) (flatMap writtenFor l))))

@@ -17,9 +17,9 @@ use Rattle.packetizer.specs.Call.{sizesOf}
 use Rattle.packetizer.specs.Laws.{Position, position, endsAt, Sound, Runs, startOf, Positive}
 use Rattle.packetizer.specs.declared.PacketMetadata.{PacketMetadata}
 use Rattle.packetizer.proofs.Bodies.{start-zero, start-more, elements-count}
+use Rattle.packetizer.proofs.Turns.{size-at}
 use Rattle.aggregation.specs.Header.{lastObu, lastStart}
 use Rattle.payloader.specs.Payload.{partOf, partsOf}
-use Rattle.payloader.proofs.Bodies.{size-at}
 use Rattle.lawful.specs.Train.{Piece, inner, Portion, portion, obus, join, whole}
 use Rattle.lawful.proofs.Trains.{join-portion, whole-portion, piecesOf, cutting}
 use Rattle.delivery.specs.Arrivals.{inOrder}

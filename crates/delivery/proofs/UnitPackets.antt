@@ -17,16 +17,17 @@ use Rattle.base.proofs.Tests.{by-cond, split-on}
 use Rattle.leb128.specs.Field.{encode, largestValue}
 use Rattle.obu.specs.Header.{typeOf}
 use Rattle.obu.specs.Unit.{obusOf}
+use Rattle.obu.specs.Records.{noObu}
 use Rattle.packetizer.specs.Plan.{leastMtu, mostCounted}
 use Rattle.packetizer.specs.Elements.{Element, elementsFrom, elementsOf, elementBytes, fieldBytes}
 use Rattle.packetizer.specs.Call.{mtuLimit, sizesOf}
 use Rattle.packetizer.specs.Laws.{Position, position, endsAt, Sound, Runs, startOf, Positive}
 use Rattle.packetizer.specs.declared.PacketMetadata.{PacketMetadata}
 use Rattle.packetizer.proofs.Bodies.{elements-count}
+use Rattle.packetizer.proofs.Turns.{size-at}
 use Rattle.aggregation.specs.Header as header
-use Rattle.aggregation.specs.Header.{noObu, lastObu, lastStart, nOf, byteOf}
+use Rattle.aggregation.specs.Header.{lastObu, lastStart, nOf, byteOf}
 use Rattle.aggregation.proofs.Bits.{bit-z, bit-y, bits-w, bit-n}
-use Rattle.payloader.proofs.Bodies.{size-at}
 use Rattle.payloader.specs.Payload.{partOf, partsOf, fielded, payload, payloadsFrom}
 use Rattle.element.specs.Header.{wOf}
 use Rattle.lawful.specs.Train.{NonEmpty, Packet}

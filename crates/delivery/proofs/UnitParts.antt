@@ -17,13 +17,13 @@ use Rattle.leb128.proofs.Theorems.{Shortest, shortest}
 use Rattle.obu.specs.Unit.{Placed, keptOf, obusOf}
 use Rattle.obu.specs.Wire.{sent}
 use Rattle.obu.specs.Laws.{Inside}
+use Rattle.obu.specs.Records.{noObu}
 use Rattle.obu.specs.declared.Obu.{Obu}
 use Rattle.obu.proofs.Theorems.{kept-inside, sent-length}
 use Rattle.packetizer.specs.Elements.{Element, element, elementsFrom, elementBytes, fieldBytes}
 use Rattle.packetizer.specs.Call.{sizesOf}
 use Rattle.packetizer.specs.Laws.{startOf, Positive}
 use Rattle.packetizer.proofs.Bodies.{start-zero, start-more}
-use Rattle.aggregation.specs.Header.{noObu}
 use Rattle.payloader.specs.Payload.{partOf, partsOf, fielded}
 use Rattle.lawful.specs.Payload.{Holds, Laid, bare, last, more}
 use Rattle.lawful.proofs.Reading.{cap-power}

@@ -5,9 +5,10 @@ use native.Mathlib.Omega.{arith}
 use mathlib.Core.List.{List, [], _∷_, map, flatMap}
 use lib.ListN.{length, replicate}
 use Rattle.base.specs.Lists.{keep, All}
+use Rattle.base.specs.Streams.{streamFrom}
 use Rattle.leb128.specs.Field.{fieldIn, encodeIn}
 use Rattle.obu.specs.Front.{frontOf, headed}
-use Rattle.obu.specs.Unit.{scanFrom, listed}
+use Rattle.obu.specs.Unit.{listed}
 use Rattle.obu.specs.Wire.{wholeOf, wire}
 use Rattle.packetizer.specs.Fragment.{largestFragment}
 use Rattle.packetizer.specs.Plan.{chargeOf, isFull, needOf, fragmentOf, spread, insert, place, planFrom, planOf}
@@ -16,12 +17,12 @@ use Rattle.packetizer.specs.Call.{planAnswer}
 use Rattle.aggregation.specs.Header.{nOf, byteOf}
 use Rattle.payloader.specs.Payload.{fielded, payload, payloadsFrom}
 use Rattle.payloader.specs.Call.{payloadAnswer}
-use Rattle.element.specs.Elements.{elementAt, untilEnd, exactly, counting, elementsOf, payloadElements}
+use Rattle.element.specs.Elements.{elementAt, exactly, counting, elementsOf, payloadElements}
 use Rattle.handing.specs.Handing.{wires}
-use Rattle.receiver.specs.Joining.{fresh, isAhead, isInStep, joined, finished, left, handed, keptOpen, next, out}
-use Rattle.receiver.specs.Call.{taken, outcome, stateOf}
+use Rattle.receiver.specs.Joining.{isAhead, isInStep, follows, withFragment, finished, left, handed, keptOpen, next, out}
+use Rattle.receiver.specs.Call.{taken, outcome}
 use Rattle.delivery.specs.Arrivals.{Near}
-use Rattle.delivery.specs.Calls.{Arrival, packetsIn, Call, takes, refuses, calls, handedOut, verdicts}
+use Rattle.delivery.specs.Calls.{Arrival, arrivedPackets, Call, takes, refuses, calls, freshCalls, handedOut, verdicts}
 use Rattle.delivery.specs.Units.{Sending, Accepted, payloadsSent, UnitsDelivered}
 use Rattle.delivery.proofs.UnitsTheorem.{units-delivery}
 
@@ -51,11 +52,11 @@ packets =
     ∷ []
 
 payloads-are : payloadsSent sendings ≡ packets
-unfolding packets sendings sending flatMap keep fieldIn encodeIn headed frontOf scanFrom largestFragment chargeOf isFull needOf fragmentOf spread insert place planFrom planOf elementsFrom nOf byteOf fielded payload payloadsFrom
+unfolding packets sendings sending flatMap keep fieldIn encodeIn headed frontOf streamFrom largestFragment chargeOf isFull needOf fragmentOf spread insert place planFrom planOf elementsFrom nOf byteOf fielded payload payloadsFrom
 payloads-are = refl
 
 accepted : All Accepted sendings
-unfolding sendings sending flatMap keep fieldIn encodeIn headed frontOf scanFrom listed largestFragment chargeOf isFull needOf fragmentOf spread insert place planFrom planOf elementsFrom nOf byteOf fielded payload payloadsFrom planAnswer payloadAnswer
+unfolding sendings sending flatMap keep fieldIn encodeIn headed frontOf streamFrom listed largestFragment chargeOf isFull needOf fragmentOf spread insert place planFrom planOf elementsFrom nOf byteOf fielded payload payloadsFrom planAnswer payloadAnswer
 accepted = ((omega arith, tt), ((omega arith, tt), ((omega arith, tt), ((omega arith, tt), tt))))
 
 -- the largest kept OBU has 6 bytes and the largest mtu is 20: a store of 6 bytes, outputs of 86, which hold something
@@ -70,15 +71,15 @@ pub arrivals : List Arrival
 arrivals = map arrival (1 ∷ 2 ∷ 3 ∷ 3 ∷ 4 ∷ 6 ∷ 5 ∷ 7 ∷ [])
 
 made : List (List ℕ) → List Call
-made ps = calls ps 65533 (stateOf fresh) store arrivals
+made ps = freshCalls (record { payloads = ps; first = 65533 }) store arrivals
 
 -- the OBU in packets 2, 3 and 4, and the one in packets 6 and 7
 out-of : handedOut (made packets) ≡ 0x32 ∷ 5 ∷ 0xa1 ∷ 0xa2 ∷ 0xa3 ∷ 0xa4 ∷ 0xa5 ∷ 0x36 ∷ 8 ∷ 1 ∷ 0xc1 ∷ []
-unfolding made store arrival arrivals packets calls flatMap outcome taken payloadElements elementsOf counting untilEnd exactly elementAt fieldIn encodeIn isAhead isInStep joined finished left handed keptOpen next out wires wire wholeOf frontOf headed
+unfolding made store arrival arrivals packets calls flatMap outcome taken payloadElements elementsOf counting streamFrom exactly elementAt fieldIn encodeIn isAhead isInStep follows withFragment finished left handed keptOpen next out wires wire wholeOf frontOf headed
 out-of = refl
 
 verdicts-of : verdicts (made packets) ≡ takes ∷ takes ∷ takes ∷ refuses 14 ∷ takes ∷ takes ∷ refuses 14 ∷ takes ∷ []
-unfolding made store arrival arrivals packets calls flatMap outcome taken payloadElements elementsOf counting untilEnd exactly elementAt fieldIn encodeIn isAhead isInStep joined finished left handed keptOpen next out wires wire wholeOf frontOf headed
+unfolding made store arrival arrivals packets calls flatMap outcome taken payloadElements elementsOf counting streamFrom exactly elementAt fieldIn encodeIn isAhead isInStep follows withFragment finished left handed keptOpen next out wires wire wholeOf frontOf headed
 verdicts-of = refl
 
 out-is : handedOut (made (payloadsSent sendings)) ≡ 0x32 ∷ 5 ∷ 0xa1 ∷ 0xa2 ∷ 0xa3 ∷ 0xa4 ∷ 0xa5 ∷ 0x36 ∷ 8 ∷ 1 ∷ 0xc1 ∷ []
@@ -88,14 +89,14 @@ verdicts-are : verdicts (made (payloadsSent sendings)) ≡ takes ∷ takes ∷ t
 verdicts-are = ap (λ (ps : List (List ℕ)). verdicts (made ps)) payloads-are ∙ verdicts-of
 
 -- every premise is met
-near : Near (length (payloadsSent sendings)) (packetsIn arrivals)
+near : Near (length (payloadsSent sendings)) (arrivedPackets arrivals)
 unfolding arrivals arrival packets
 near =
-    subst (λ (ps : List (List ℕ)). Near (length ps) (packetsIn arrivals)) (sym payloads-are)
+    subst (λ (ps : List (List ℕ)). Near (length ps) (arrivedPackets arrivals)) (sym payloads-are)
     (omega arith, (omega arith, omega arith, omega arith, (omega arith, omega arith, omega arith, (omega arith, omega arith, omega arith, (omega arith, omega arith, omega arith, (omega arith, omega arith, omega arith, (omega arith, omega arith, omega arith, (omega arith, omega arith, omega arith, tt))))))))
 
 pub met : UnitsDelivered sendings 65533 store arrivals
-unfolding sendings sending store arrival arrivals keep fieldIn headed frontOf scanFrom
+unfolding sendings sending store arrival arrivals keep fieldIn headed frontOf streamFrom
 met =
     units-delivery sendings 65533 6 20 store arrivals accepted near
     (record {

@@ -11,22 +11,22 @@ use Rattle.base.specs.Lists.{keep, All}
 use Rattle.base.proofs.Lists.{all-map, keep-append, all-append, map-append}
 use Rattle.obu.specs.Unit.{obusOf}
 use Rattle.obu.specs.Wire.{wireOf}
+use Rattle.obu.specs.Records.{noObu}
 use Rattle.obu.specs.declared.Obu.{Obu}
-use Rattle.aggregation.specs.Header.{noObu}
 use Rattle.packetizer.specs.Call.{sizesOf, unitPlan}
 use Rattle.packetizer.proofs.Calls.{unit-small}
 use Rattle.payloader.specs.Payload.{payloadsOf}
 use Rattle.handing.specs.Handing.{fragmentLimit, before, wires}
 use Rattle.handing.proofs.Wires.{wires-append}
-use Rattle.lawful.specs.Train.{Piece, NonEmpty, bytesIn, Full, closed, packets, runOf, obus, join, whole}
+use Rattle.lawful.specs.Train.{Piece, NonEmpty, bytesIn, Full, closed, packets, packetsOfPieces, obus, join, whole}
 use Rattle.lawful.specs.Payload.{CarryAll}
 use Rattle.lawful.specs.Lawful.{Lawful, WellFormed}
 use Rattle.lawful.proofs.Reading.{carry-append}
 use Rattle.lawful.proofs.Trains.{closed-append, run-append, obus-append}
 use Rattle.delivery.specs.Arrivals.{timely, firstTimely, inOrder}
-use Rattle.delivery.specs.Calls.{Arrival, packetsIn, takes, refuses, takenOr14}
+use Rattle.delivery.specs.Calls.{Arrival, arrivedPackets, takes, refuses, takenOr14}
 use Rattle.delivery.specs.Delivery.{Space, Delivered}
-use Rattle.delivery.specs.Units.{Sending, Accepted, payloadsSent, packetsOf, every, expected, UnitSpace, UnitsDelivery, UnitsOnly14, UnitsNoLoss}
+use Rattle.delivery.specs.Units.{Sending, Accepted, payloadsSent, sentFrom, packetsOf, every, expected, UnitSpace, UnitsDelivery, UnitsOnly14, UnitsNoLoss}
 use Rattle.delivery.proofs.Places.{in-order-all}
 use Rattle.delivery.proofs.Theorem.{delivery}
 use Rattle.delivery.proofs.NoLoss.{no-loss}
@@ -46,12 +46,12 @@ unfolding flatMap closed
 trains-closed [] h = refl
 trains-closed (s ∷ ss) h = closed-append (trainOf s) (trains ss) true (train-closed s (h .0)) ∙ trains-closed ss (h .1)
 
-trains-carried : (ss : List Sending) → All Accepted ss → CarryAll (payloadsSent ss) (runOf (trains ss))
+trains-carried : (ss : List Sending) → All Accepted ss → CarryAll (payloadsSent ss) (packetsOfPieces (trains ss))
 unfolding flatMap packets
 trains-carried [] h = tt
 trains-carried (s ∷ ss) h =
     rw (run-append (trainOf s) (trains ss) (train-closed s (h .0)))
-    (carry-append (payloadsOf (s .mtu) (s .unit)) (payloadsSent ss) (runOf (trainOf s)) (runOf (trains ss)) (train-carried s (h .0)) (trains-carried ss (h .1)))
+    (carry-append (payloadsOf (s .mtu) (s .unit)) (payloadsSent ss) (packetsOfPieces (trainOf s)) (packetsOfPieces (trains ss)) (train-carried s (h .0)) (trains-carried ss (h .1)))
 
 trains-short : (mtu : ℕ) (ss : List Sending) → All Accepted ss → All (λ s. s .mtu ≤ mtu) ss → All (λ (b : List ℕ). length b ≤ mtu) (payloadsSent ss)
 unfolding flatMap
@@ -67,21 +67,21 @@ unfolding flatMap obus
 trains-all P k [] h f = tt
 trains-all P k (s ∷ ss) h f =
     rw (obus-append k (trainOf s) (trains ss) (train-closed s (h .0)))
-    (all-append (λ o. P (join o)) (obus k [] (trainOf s)) (obus (k + length (runOf (trainOf s))) [] (trains ss)) (f .0 k) (trains-all P (k + length (runOf (trainOf s))) ss (h .1) (f .1)))
+    (all-append (λ o. P (join o)) (obus k [] (trainOf s)) (obus (k + length (packetsOfPieces (trainOf s))) [] (trains ss)) (f .0 k) (trains-all P (k + length (packetsOfPieces (trainOf s))) ss (h .1) (f .1)))
 
 trains-through : (test : ℕ → Bool) (k : ℕ) (ss : List Sending) → All Accepted ss → wires (map join (keep (whole test) (obus k [] (trains ss)))) ≡ given (expected test k ss)
 unfolding flatMap obus expected keep wires
 trains-through test k [] h = refl
 trains-through test k (s ∷ ss) h =
     let t : List Piece = trainOf s in
-    let n : k + length (runOf t) ≡ k + length (unitPlan (s .mtu) (s .unit)) = ap (λ (x : ℕ). k + x) (train-length s (h .0)) in
+    let n : k + length (packetsOfPieces t) ≡ k + length (unitPlan (s .mtu) (s .unit)) = ap (λ (x : ℕ). k + x) (train-length s (h .0)) in
     ap wires
     (ap (λ l. map join (keep (whole test) l)) (obus-append k t (trains ss) (train-closed s (h .0)))
-    ∙ ap (map join) (keep-append (whole test) (obus k [] t) (obus (k + length (runOf t)) [] (trains ss)))
-    ∙ map-append join (keep (whole test) (obus k [] t)) (keep (whole test) (obus (k + length (runOf t)) [] (trains ss))))
-    ∙ wires-append (map join (keep (whole test) (obus k [] t))) (map join (keep (whole test) (obus (k + length (runOf t)) [] (trains ss))))
+    ∙ ap (map join) (keep-append (whole test) (obus k [] t) (obus (k + length (packetsOfPieces t)) [] (trains ss)))
+    ∙ map-append join (keep (whole test) (obus k [] t)) (keep (whole test) (obus (k + length (packetsOfPieces t)) [] (trains ss))))
+    ∙ wires-append (map join (keep (whole test) (obus k [] t))) (map join (keep (whole test) (obus (k + length (packetsOfPieces t)) [] (trains ss))))
     ∙ ap₂ before (ap wires (train-through s (h .0) test k) ∙ wires-whole s (h .0) test k)
-    (trains-through test (k + length (runOf t)) ss (h .1) ∙ ap (λ (x : ℕ). given (expected test x ss)) n)
+    (trains-through test (k + length (packetsOfPieces t)) ss (h .1) ∙ ap (λ (x : ℕ). given (expected test x ss)) n)
 
 -- ---- the payloads of accepted units are a lawful train (theorem 5)
 
@@ -132,9 +132,9 @@ given-same e = cc
 
 pub units-delivery : UnitsDelivery
 units-delivery ss first size mtu store arrivals h near sp =
-    let d : Delivered (trains ss) (payloadsSent ss) first store arrivals =
-    delivery (trains ss) (payloadsSent ss) first (min size fragmentLimit) mtu store arrivals (units-lawful ss h) near (units-space ss size mtu store arrivals h sp) in
-    record { out = given-same (d .out ∙ trains-through (timely (packetsIn arrivals)) 0 ss h); refusals = d .refusals }
+    let d : Delivered (trains ss) (sentFrom first ss) store arrivals =
+    delivery (trains ss) (sentFrom first ss) (min size fragmentLimit) mtu store arrivals (units-lawful ss h) near (units-space ss size mtu store arrivals h sp) in
+    record { out = given-same (d .out ∙ trains-through (timely (arrivedPackets arrivals)) 0 ss h); refusals = d .refusals }
 
 -- ---- no refusal but R14
 
@@ -145,7 +145,7 @@ taken-or-14 (false ∷ bs) = (inr refl, taken-or-14 bs)
 
 pub units-only-14 : UnitsOnly14
 units-only-14 ss first size mtu store arrivals h near sp =
-    subst (All (λ v. (v ≡ takes) ⊎ (v ≡ refuses 14))) (sym (units-delivery ss first size mtu store arrivals h near sp .refusals)) (taken-or-14 (firstTimely [] (packetsIn arrivals)))
+    subst (All (λ v. (v ≡ takes) ⊎ (v ≡ refuses 14))) (sym (units-delivery ss first size mtu store arrivals h near sp .refusals)) (taken-or-14 (firstTimely [] (arrivedPackets arrivals)))
 
 -- ---- no loss
 
@@ -169,7 +169,7 @@ expected-all k (s ∷ ss) =
 
 pub units-no-loss : UnitsNoLoss
 units-no-loss ss first size mtu store arrivals h e sp =
-    let d = no-loss (trains ss) (payloadsSent ss) first (min size fragmentLimit) mtu store arrivals (units-lawful ss h) e (units-space ss size mtu store arrivals h sp) in (
+    let d = no-loss (trains ss) (sentFrom first ss) (min size fragmentLimit) mtu store arrivals (units-lawful ss h) e (units-space ss size mtu store arrivals h sp) in (
       given-same
           (d .0 ∙ ap (λ l. wires (map join l)) (sym (all-pass (obus 0 [] (trains ss)))) ∙ trains-through (λ n. true) 0 ss h ∙ ap given (expected-all 0 ss)),
       d .1,

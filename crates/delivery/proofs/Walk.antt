@@ -8,8 +8,8 @@ use mathlib.Core.Bool.{Bool, true, false, cond, _&&_, true≢false}
 use lib.ListN.{length-append}
 use Rattle.base.specs.Lists.{keep}
 use Rattle.receiver.specs.Packet.{Packet}
-use Rattle.receiver.specs.Joining.{joined, finished, left, handed, keptOpen}
-use Rattle.lawful.specs.Train.{Piece, cut, inner, final, NonEmpty, Full, packets, runOf, Portion, portion, obus, obusIn, join, whole}
+use Rattle.receiver.specs.Joining.{withFragment, finished, left, handed, keptOpen}
+use Rattle.lawful.specs.Train.{Piece, cut, inner, final, NonEmpty, Full, packets, packetsOfPieces, Portion, portion, obus, obusOfPieces, join, whole}
 use Rattle.lawful.proofs.Trains.{join-portion, whole-portion}
 
 -- `emit` says what is noted of each packet that is taken, by the fragment that it may join: `handed`, or another view of the same walk.
@@ -38,15 +38,15 @@ left-snoc (x ∷ y ∷ js) j = left-snoc (y ∷ js) j
 -- `o`, `z` and `es` are the open fragment, Z and the elements so far of its packet;
 -- `w` says whether all packets so far of its OBU are taken, and `x` is what the OBU has so far
 pub record Ready (o : List ℕ) (z : Bool) (es : List (List ℕ)) (w : Bool) (x : List ℕ) : Type 0 where
-  pub joins : (b : List ℕ) → joined o z (es ++ (b ∷ [])) ≡ joined o z es ++ cond w ((x ++ b) ∷ []) []
-  pub lost : w ≡ false → joined o z es ≡ []
+  pub joins : (b : List ℕ) → withFragment o z (es ++ (b ∷ [])) ≡ withFragment o z es ++ cond w ((x ++ b) ∷ []) []
+  pub lost : w ≡ false → withFragment o z es ≡ []
 
 pub start : (o : List ℕ) → Ready o false [] true []
-unfolding joined
+unfolding withFragment
 start o = record { joins = λ b. refl; lost = λ h. refl }
 
-more : (o : List ℕ) (z : Bool) (e : List ℕ) (es : List (List ℕ)) (b : List ℕ) → joined o z ((e ∷ es) ++ (b ∷ [])) ≡ joined o z (e ∷ es) ++ (b ∷ [])
-unfolding joined
+more : (o : List ℕ) (z : Bool) (e : List ℕ) (es : List (List ℕ)) (b : List ℕ) → withFragment o z ((e ∷ es) ++ (b ∷ [])) ≡ withFragment o z (e ∷ es) ++ (b ∷ [])
+unfolding withFragment
 more o false e es b = refl
 more [] true e es b = refl
 more (c ∷ o) true e es b = refl
@@ -56,7 +56,7 @@ inside o z [] b = record { joins = more o z b []; lost = λ h. absurd (true≢fa
 inside o z (e ∷ es) b = record { joins = more o z e (es ++ (b ∷ [])); lost = λ h. absurd (true≢false h) }
 
 after-cut : (w : Bool) (x : List ℕ) → NonEmpty x → Ready (cond w x []) true [] w x
-unfolding joined
+unfolding withFragment
 after-cut true [] h = absurd (not-suc-le-zero h)
 after-cut true (c ∷ x) h = record { joins = λ b. refl; lost = λ h. refl }
 after-cut false x h = record { joins = λ b. refl; lost = λ h. refl }
@@ -91,8 +91,8 @@ at-cut true false j m x f l h = rw (l refl) (h [] refl)
 at-cut false true j m x f l h = h [] refl
 at-cut false false j m x f l h = h [] refl
 
-nothing-yet : (b : Bool) (o : List ℕ) (z : Bool) → cond b (joined o z []) [] ≡ []
-unfolding joined
+nothing-yet : (b : Bool) (o : List ℕ) (z : Bool) → cond b (withFragment o z []) [] ≡ []
+unfolding withFragment
 nothing-yet true o true = refl
 nothing-yet true o false = refl
 nothing-yet false o z = refl
@@ -119,21 +119,21 @@ module _ (taken : ℕ → Bool) where
   out-of k ps t = map join (keep (whole taken) (obus k ps t))
 
   wave : (t : List Piece) (k : ℕ) (o : List ℕ) (z : Bool) (es : List (List ℕ)) (ps : List Portion) → Full t → Ready o z es (whole taken ps) (join ps)
-      → walk handed taken k o (packets z es t) ≡ cond (taken k) (joined o z es) [] ++ out-of k ps t
+      → walk handed taken k o (packets z es t) ≡ cond (taken k) (withFragment o z es) [] ++ out-of k ps t
   unfolding walk packets obus keep join whole finished left handed keptOpen out-of
   wave [] k o z [] ps f r = rw (nothing-yet (taken k) o z)
-  wave [] k o z (e ∷ es) ps f r = alone (taken k) (joined o z (e ∷ es))
+  wave [] k o z (e ∷ es) ps f r = alone (taken k) (withFragment o z (e ∷ es))
   wave (cut b ∷ t) k o z es ps f r =
       rw (r .joins b)
-      (at-cut (taken k) (whole taken ps) (joined o z es) _ (join ps ++ b) (λ n. walk handed taken (suc k) n (packets true [] t)) (r .lost)
+      (at-cut (taken k) (whole taken ps) (withFragment o z es) _ (join ps ++ b) (λ n. walk handed taken (suc k) n (packets true [] t)) (r .lost)
       (λ n e. wave t (suc k) n true [] (ps ++ (portion k b ∷ [])) (f .1) (cut-at taken ps k b n (f .0) e) ∙ rw (nothing-yet (taken (suc k)) n true)))
   wave (inner b ∷ t) k o z es ps f r =
       wave t k o z (es ++ (b ∷ [])) [] (f .1) (inside o z es b)
-      ∙ rw (r .joins b, kept-cons taken ps k b (obus k [] t)) (in-packet (taken k) (whole taken ps) (joined o z es) _ (join ps ++ b))
+      ∙ rw (r .joins b, kept-cons taken ps k b (obus k [] t)) (in-packet (taken k) (whole taken ps) (withFragment o z es) _ (join ps ++ b))
   wave (final b ∷ t) k o z es ps f r =
       rw (r .joins b, kept-cons taken ps k b (obus (suc k) [] t), wave t (suc k) [] false [] [] (f .1) (start []), nothing-yet (taken (suc k)) [] false)
-      (at-end (taken k) (whole taken ps) (joined o z es) _ (join ps ++ b))
+      (at-end (taken k) (whole taken ps) (withFragment o z es) _ (join ps ++ b))
 
-pub walk-handed : (taken : ℕ → Bool) (t : List Piece) → Full t → walk handed taken 0 [] (runOf t) ≡ map join (keep (whole taken) (obusIn t))
+pub walk-handed : (taken : ℕ → Bool) (t : List Piece) → Full t → walk handed taken 0 [] (packetsOfPieces t) ≡ map join (keep (whole taken) (obusOfPieces t))
 unfolding join whole out-of
 walk-handed taken t f = wave taken t 0 [] false [] [] f (start []) ∙ rw (nothing-yet (taken 0) [] false)

@@ -4,11 +4,12 @@ use Prim.Native.Nat.{ℕ, zero, suc, _+_, _%_, _≤_, _<_, max}
 use mathlib.Core.List.{List, [], _∷_, _++_}
 use mathlib.Core.Bool.{Bool, false, cond, not, _&&_, _||_}
 use lib.Dec.{ltb, eqb}
+use Rattle.base.specs.Numbers.{packetNumbers}
 use Rattle.receiver.specs.Joining.{furthestAhead}
 
 -- L7: the number of packet k, where the first packet of the run has the number `first`
 abbrev pub number : ℕ → ℕ → ℕ
-number first k = (first + k) % 65536
+number first k = (first + k) % packetNumbers
 
 -- W18: packet k comes, and before every later packet of the run. Earlier packets are passed over; the first other arrival is k
 unfoldable pub timely : List ℕ → ℕ → Bool

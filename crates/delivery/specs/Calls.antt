@@ -4,7 +4,8 @@ use mathlib.Core.List.{List, [], _∷_, map, flatMap}
 use mathlib.Core.Bool.{Bool, cond}
 use lib.ListN.{getD, take}
 use Rattle.base.specs.Answers.{Answer, given, refused}
-use Rattle.receiver.specs.Call.{receiveAnswer, storeAfter, outputAfter}
+use Rattle.receiver.specs.Joining.{label, fresh}
+use Rattle.receiver.specs.Call.{Incoming, stateOf, Inputs, After, received}
 use Rattle.receiver.specs.declared.State.{State}
 use Rattle.receiver.specs.declared.Received.{Received}
 use Rattle.delivery.specs.Arrivals.{number}
@@ -14,8 +15,8 @@ pub record Arrival : Type 0 where
   pub packet : ℕ
   pub output : List ℕ
 
-abbrev pub packetsIn : List Arrival → List ℕ
-packetsIn arrivals = map (λ (a : Arrival). a .packet) arrivals
+abbrev pub arrivedPackets : List Arrival → List ℕ
+arrivedPackets arrivals = map (λ (a : Arrival). a .packet) arrivals
 
 -- what a call says, and the bytes that it hands out
 pub record Call : Type 0 where
@@ -44,26 +45,31 @@ verdictOf (refused n at) = refuses n
 abbrev pub takenOr14 : Bool → Verdict
 takenOr14 first = cond first takes (refuses 14)
 
--- the run's payloads, its first packet's number, and what comes of it
-module _ (payloads : List (List ℕ)) (first : ℕ) where
-  abbrev pub payloadAt : Arrival → List ℕ
-  payloadAt a = getD payloads (a .packet) []
+-- packets sent in one run: their payloads, and the number of the first
+pub record Run : Type 0 where
+  pub payloads : List (List ℕ)
+  pub first : ℕ
 
-  abbrev pub answerTo : State → List ℕ → Arrival → Answer Received
-  answerTo state store a = receiveAnswer state (number first (a .packet)) (payloadAt a) store (a .output)
+-- the packet at a place of the run
+abbrev pub packetAt : Run → ℕ → Incoming
+packetAt run k = record { label = label (number (run .first) k); payload = getD (run .payloads) k [] }
 
-  abbrev pub callOn : State → List ℕ → Arrival → Call
-  callOn state store a =
-      record {
-        answer = answerTo state store a;
-        bytes = bytesBy (answerTo state store a) (outputAfter state (number first (a .packet)) (payloadAt a) store (a .output));
-      }
+-- a call, and what comes of it
+abbrev pub calling : Run → State → List ℕ → Arrival → Inputs
+calling run state store a = record { state = state; packet = packetAt run (a .packet); store = store; output = a .output }
 
-  unfoldable pub calls : State → List ℕ → List Arrival → List Call
-  calls state store [] = []
-  calls state store (a ∷ rest) =
-      callOn state store a
-      ∷ calls (stateAfter state (answerTo state store a)) (storeAfter state (number first (a .packet)) (payloadAt a) store (a .output)) rest
+abbrev pub callBy : After (Answer Received) → Call
+callBy x = record { answer = x .answer; bytes = bytesBy (x .answer) (x .output) }
+
+unfoldable pub calls : Run → State → List ℕ → List Arrival → List Call
+calls run state store [] = []
+calls run state store (a ∷ rest) =
+    let x = received (calling run state store a) in
+    callBy x ∷ calls run (stateAfter state (x .answer)) (x .store) rest
+
+-- those of a fresh receiver
+abbrev pub freshCalls : Run → List ℕ → List Arrival → List Call
+freshCalls run store arrivals = calls run (stateOf fresh) store arrivals
 
 -- all that the calls hand out, and what each of them says
 abbrev pub handedOut : List Call → List ℕ

@@ -7,9 +7,7 @@ use Rattle.base.specs.Lists.{All}
 use Rattle.obu.specs.Unit.{obusOf}
 use Rattle.obu.specs.Wire.{wireOf}
 use Rattle.payloader.specs.Payload.{payloadsOf}
-use Rattle.receiver.specs.Joining.{fresh}
-use Rattle.receiver.specs.Call.{stateOf}
-use Rattle.delivery.specs.Calls.{Arrival, calls, handedOut}
+use Rattle.delivery.specs.Calls.{Arrival, freshCalls, handedOut}
 
 -- two works of one OBU each, which an mtu of 3 cuts into two packets
 abbrev pub one : List ℕ
@@ -31,5 +29,5 @@ neither = 0x32 ∷ 2 ∷ 0xa1 ∷ 0xb2 ∷ []
 
 -- it comes out, and it is no OBU of either work. No receiver can tell: hence one train, one fresh receiver
 pub record Fused : Type 0 where
-  pub out : handedOut (calls fusedPackets 41 (stateOf fresh) (replicate 3 0) (arrival 0 ∷ arrival 1 ∷ [])) ≡ neither
+  pub out : handedOut (freshCalls (record { payloads = fusedPackets; first = 41 }) (replicate 3 0) (arrival 0 ∷ arrival 1 ∷ [])) ≡ neither
   pub of-neither : All (λ (o : List ℕ). o ≡ neither → ⊥) (map (wireOf one) (obusOf one) ++ map (wireOf other) (obusOf other))

@@ -7,10 +7,11 @@ use lib.ListN.{getD}
 use lib.Dec.{ltb, eqb}
 use Rattle.base.specs.Answers.{given}
 use Rattle.obu.specs.Unit.{obusOf}
+use Rattle.obu.specs.Records.{noObu}
 use Rattle.packetizer.specs.Elements.{elementsOf}
 use Rattle.packetizer.specs.Call.{sizesOf, unitPlan}
 use Rattle.packetizer.specs.declared.PacketMetadata.{PacketMetadata}
-use Rattle.aggregation.specs.Header.{noObu, lastObu, lastStart}
+use Rattle.aggregation.specs.Header.{lastObu, lastStart}
 use Rattle.payloader.specs.Payload.{partsOf, payloadsOf}
 use Rattle.element.specs.Header.{zBit, yBit, nBit}
 use Rattle.element.specs.Elements.{payloadElements, bytesOf}

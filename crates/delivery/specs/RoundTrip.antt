@@ -18,4 +18,4 @@ wireBytesOf units = flatMap (λ (u : List ℕ). flatMap (wireOf u) (obusOf u)) u
 abbrev pub RoundTrip : Type 0
 RoundTrip =
     (input : List ℕ) (h : PackHead) → All (λ b. b < 256) input → headIn input ≡ found h → leastMtu ≤ h .mtu
-    → unpackOf (packOf input) ≡ wireBytesOf (unitsIn input .units)
+    → unpackOf (packOf input) ≡ wireBytesOf (unitsIn input .items)

@@ -6,11 +6,9 @@ use lib.ListN.{length}
 use Rattle.base.specs.Lists.{All}
 use Rattle.obu.specs.Unit.{obusOf}
 use Rattle.obu.specs.Wire.{wireOf}
-use Rattle.receiver.specs.Joining.{fresh}
-use Rattle.receiver.specs.Call.{stateOf}
 use Rattle.delivery.specs.Arrivals.{Near}
-use Rattle.delivery.specs.Calls.{Arrival, packetsIn, calls, handedOut}
-use Rattle.delivery.specs.Units.{Sending, Accepted, payloadsSent, UnitSpace}
+use Rattle.delivery.specs.Calls.{Arrival, arrivedPackets, freshCalls, handedOut}
+use Rattle.delivery.specs.Units.{Sending, Accepted, payloadsSent, sentFrom, UnitSpace}
 
 -- units packed and numbered in one run, some of whose packets arrive
 pub record Train : Type 0 where
@@ -25,12 +23,12 @@ pub record Train : Type 0 where
 -- the premises of demand 3
 pub record Sound (t : Train) : Type 0 where
   pub accepted : All Accepted (t .sendings)
-  pub near : Near (length (payloadsSent (t .sendings))) (packetsIn (t .arrivals))
+  pub near : Near (length (payloadsSent (t .sendings))) (arrivedPackets (t .arrivals))
   pub space : UnitSpace (t .sendings) (t .size) (t .mtu) (t .store) (t .arrivals)
 
 -- what a fresh receiver hands out
 abbrev pub unpacked : Train → List ℕ
-unpacked t = handedOut (calls (payloadsSent (t .sendings)) (t .first) (stateOf fresh) (t .store) (t .arrivals))
+unpacked t = handedOut (freshCalls (sentFrom (t .first) (t .sendings)) (t .store) (t .arrivals))
 
 -- the kept OBUs of some units, each as its `wire` bytes (O12)
 abbrev pub wiresOf : List Sending → List (List ℕ)

@@ -6,21 +6,19 @@ use mathlib.Core.Logic.{_⊎_}
 use mathlib.Core.Bool.{Bool, true, cond, _&&_}
 use lib.ListN.{length, getD}
 use lib.Dec.{ltb, leb}
+use Rattle.base.specs.Answers.{Given}
 use Rattle.base.specs.Lists.{keep, All}
 use Rattle.obu.specs.Unit.{obusOf}
 use Rattle.obu.specs.Wire.{wireOf}
+use Rattle.obu.specs.Records.{noObu}
 use Rattle.obu.specs.declared.Obu.{Obu}
 use Rattle.packetizer.specs.Plan.{leastMtu}
 use Rattle.packetizer.specs.Call.{unitPlan}
 use Rattle.packetizer.specs.declared.PacketMetadata.{PacketMetadata}
-use Rattle.aggregation.specs.Header.{noObu}
 use Rattle.payloader.specs.Payload.{payloadsOf}
-use Rattle.payloader.specs.Call.{payloadAnswer}
-use Rattle.receiver.specs.Joining.{fresh}
-use Rattle.receiver.specs.Call.{stateOf}
-use Rattle.lawful.specs.Lawful.{Given}
+use Rattle.payloader.specs.Call.{toWrite, payloadAnswer}
 use Rattle.delivery.specs.Arrivals.{timely, firstTimely, Near, inOrder}
-use Rattle.delivery.specs.Calls.{Arrival, packetsIn, takes, refuses, takenOr14, calls, handedOut, verdicts}
+use Rattle.delivery.specs.Calls.{Arrival, arrivedPackets, Run, takes, refuses, takenOr14, freshCalls, handedOut, verdicts}
 
 -- one payload call: a unit, its mtu, and what is lent
 pub record Sending : Type 0 where
@@ -32,11 +30,14 @@ pub record Sending : Type 0 where
 
 -- W15, with an mtu that gives packets
 abbrev pub Accepted : Sending → Type 0
-Accepted s = (leastMtu ≤ s .mtu) × Given (payloadAnswer (s .mtu) (s .unit) (s .obus) (s .plan) (s .output))
+Accepted s = (leastMtu ≤ s .mtu) × Given (payloadAnswer (toWrite (s .mtu) (s .unit) (s .obus) (s .plan) (s .output)))
 
 -- the packets of one run: those of the units, in order
 abbrev pub payloadsSent : List Sending → List (List ℕ)
 payloadsSent sendings = flatMap (λ (s : Sending). payloadsOf (s .mtu) (s .unit)) sendings
+
+abbrev pub sentFrom : ℕ → List Sending → Run
+sentFrom first sendings = record { payloads = payloadsSent sendings; first = first }
 
 -- ---- the packets of an OBU (W17)
 
@@ -77,17 +78,17 @@ pub record UnitSpace (sendings : List Sending) (size mtu : ℕ) (store : List �
 -- a fresh receiver is called for each arrival of a packet of the run
 pub record UnitsDelivered (sendings : List Sending) (first : ℕ) (store : List ℕ) (arrivals : List Arrival) : Type 0 where
   -- what it hands out is the kept OBUs all of whose packets are timely: in order, once each, and nothing else
-  pub out : handedOut (calls (payloadsSent sendings) first (stateOf fresh) store arrivals) ≡ expected (timely (packetsIn arrivals)) 0 sendings
+  pub out : handedOut (freshCalls (sentFrom first sendings) store arrivals) ≡ expected (timely (arrivedPackets arrivals)) 0 sendings
   -- R14 is given to exactly those arrivals that are not the first coming of a timely packet, and no other refusal arises
   pub refusals :
-      verdicts (calls (payloadsSent sendings) first (stateOf fresh) store arrivals)
-      ≡ map takenOr14 (firstTimely [] (packetsIn arrivals))
+      verdicts (freshCalls (sentFrom first sendings) store arrivals)
+      ≡ map takenOr14 (firstTimely [] (arrivedPackets arrivals))
 
 abbrev pub UnitsDelivery : Type 0
 UnitsDelivery =
     (sendings : List Sending) (first size mtu : ℕ) (store : List ℕ) (arrivals : List Arrival)
     → All Accepted sendings
-    → Near (length (payloadsSent sendings)) (packetsIn arrivals)
+    → Near (length (payloadsSent sendings)) (arrivedPackets arrivals)
     → UnitSpace sendings size mtu store arrivals
     → UnitsDelivered sendings first store arrivals
 
@@ -96,16 +97,16 @@ abbrev pub UnitsNoLoss : Type 0
 UnitsNoLoss =
     (sendings : List Sending) (first size mtu : ℕ) (store : List ℕ) (arrivals : List Arrival)
     → All Accepted sendings
-    → packetsIn arrivals ≡ inOrder 0 (length (payloadsSent sendings))
+    → arrivedPackets arrivals ≡ inOrder 0 (length (payloadsSent sendings))
     → UnitSpace sendings size mtu store arrivals
-    → (handedOut (calls (payloadsSent sendings) first (stateOf fresh) store arrivals) ≡ flatMap (λ (s : Sending). flatMap (wireOf (s .unit)) (obusOf (s .unit))) sendings)
-    × All (λ v. v ≡ takes) (verdicts (calls (payloadsSent sendings) first (stateOf fresh) store arrivals))
+    → (handedOut (freshCalls (sentFrom first sendings) store arrivals) ≡ flatMap (λ (s : Sending). flatMap (wireOf (s .unit)) (obusOf (s .unit))) sendings)
+    × All (λ v. v ≡ takes) (verdicts (freshCalls (sentFrom first sendings) store arrivals))
 
 -- of the packets that the payload call wrote, none gets a refusal but R14: never R13, R15, R16, R17 or R18, and with this space never R12, R19 or R20
 abbrev pub UnitsOnly14 : Type 0
 UnitsOnly14 =
     (sendings : List Sending) (first size mtu : ℕ) (store : List ℕ) (arrivals : List Arrival)
     → All Accepted sendings
-    → Near (length (payloadsSent sendings)) (packetsIn arrivals)
+    → Near (length (payloadsSent sendings)) (arrivedPackets arrivals)
     → UnitSpace sendings size mtu store arrivals
-    → All (λ v. (v ≡ takes) ⊎ (v ≡ refuses 14)) (verdicts (calls (payloadsSent sendings) first (stateOf fresh) store arrivals))
+    → All (λ v. (v ≡ takes) ⊎ (v ≡ refuses 14)) (verdicts (freshCalls (sentFrom first sendings) store arrivals))

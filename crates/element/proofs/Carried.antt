@@ -12,6 +12,7 @@ use lib.Seq.{take-at, drop-at}
 use lib.Dec.{eqb}
 use borrow.Author.Tests.{ne-eqb}
 use Rattle.base.specs.Answers.{Answer, given, refused}
+use Rattle.base.specs.Streams.{streamFrom}
 use Rattle.leb128.specs.Field.{sized, sizeField, encode, form, longestField, largestValue}
 use Rattle.leb128.specs.Laws.{cap}
 use Rattle.leb128.proofs.Theorems.{read-back, padded-read, form-length}
@@ -70,17 +71,17 @@ element-written at x rest s =
 after-written : (at : ℕ) (x : Framed) (rest : List ℕ) → drop (partAt at x .next - at) (framed x ++ rest) ≡ rest
 after-written at x rest = drop-at (framed x) rest (partAt at x .next - at) (length-append (x .field) (x .bytes) ∙ omega arith)
 
-until-written : (at : ℕ) (xs : List Framed) → AllState xs → untilEnd (flatMap framed xs) 0 at ≡ given (partsAt at xs)
-unfolding flatMap untilEnd
+until-written : (at : ℕ) (xs : List Framed) → AllState xs → untilEnd (flatMap framed xs) at ≡ given (partsAt at xs)
+unfolding flatMap streamFrom
 until-written at [] s = refl
 until-written at (x ∷ xs) s =
     let l : List ℕ = framed x ++ flatMap framed xs in
     let n : length l ≡ length (x .field) + length (x .bytes) + length (flatMap framed xs) = simp length-append in
     let h : 0 < length l = omega (arith, s .0 .some) in
     until-step l at h
-    ∙ ap (λ (a : Answer Part). followed a (λ next. untilEnd (drop (next - at) l) 0 next)) (element-written at x (flatMap framed xs) (s .0))
+    ∙ ap (λ (a : Answer Part). followed a (λ next. untilEnd (drop (next - at) l) next)) (element-written at x (flatMap framed xs) (s .0))
     ∙ ap (first (partAt at x))
-    (ap (λ (r : List ℕ). untilEnd r 0 (partAt at x .next)) (after-written at x (flatMap framed xs)) ∙ until-written (partAt at x .next) xs (s .1))
+    (ap (λ (r : List ℕ). untilEnd r (partAt at x .next)) (after-written at x (flatMap framed xs)) ∙ until-written (partAt at x .next) xs (s .1))
 
 -- the same with a last element that has no length field
 abbrev lastAt : ℕ → List ℕ → Part
@@ -146,7 +147,7 @@ unfolding flatMap
 flat-some [] s n = absurd (omega arith)
 flat-some (x ∷ xs) s n = simp length-append (omega (arith, s .0 .some))
 
-count-zero : (l : List ℕ) → 1 ≤ length l → counting 0 l ≡ untilEnd l 0 1
+count-zero : (l : List ℕ) → 1 ≤ length l → counting 0 l ≡ untilEnd l 1
 unfolding counting
 count-zero l n = rw (ne-eqb (length l) 0 (λ e. omega arith))
 

@@ -4,21 +4,23 @@
 --     from-step      those from a cursor: the one at it, if one is due, and those from its next cursor on
 --     from-end       none is due: there are no more
 use mathlib.Core.Path.{_≡_, refl, sym, ap, subst, _∙_}
-use Prim.Native.Nat.{ℕ, zero, suc, _+_, _-_, _≤_, _<_}
-use native.Mathlib.Nat.{add-zero, sub-zero}
+use Prim.Native.Nat.{ℕ, suc, _+_, _-_, _≤_, _<_}
+use native.Mathlib.Nat.{sub-zero}
 use native.Mathlib.Omega.{arith}
 use mathlib.Core.List.{List, [], _∷_}
 use mathlib.Core.Bool.{Bool, true, false, cond, not, _&&_}
 use lib.ListN.{length, getD, drop, length-drop, drop-of-length-le}
-use lib.Seq.{length-take-le, drop-drop, drop-nil}
+use lib.Seq.{length-take-le, drop-drop}
 use lib.Dec.{eqb, ltb}
 use borrow.Author.Tests.{eqb-true, eqb-false, ltb-false, ltb-true, lt-ltb, le-ltb, eq-eqb, ne-eqb}
 use Rattle.base.specs.Answers.{Answer, given, refused}
+use Rattle.base.specs.Streams.{Stream, chained, streamFrom, wholeBy, whole}
 use Rattle.base.proofs.Tests.{by-cond, split-on}
+use Rattle.base.proofs.Streams.{Some, stream-step}
 use Rattle.leb128.specs.Field.{Field, sized, unreadable, sizeField}
 use Rattle.leb128.proofs.Reading.{Sized, size-within}
 use Rattle.element.specs.Header.{zBit, wOf, nBit}
-use Rattle.element.specs.Elements.{bytesOf, counted, remaining, elementAt, first, followed, untilEnd, exactly, counting, elementsOf, payloadElements, payloadLimit, isDue, hasField}
+use Rattle.element.specs.Elements.{bytesOf, counted, remaining, elementAt, first, followed, elementBy, elementNext, readFrom, untilEnd, exactly, counting, elementsOf, payloadElements, payloadLimit, isDue, hasField}
 use Rattle.element.specs.Laws.{Lies, elementsFrom}
 use Rattle.element.specs.declared.Part.{Part}
 
@@ -71,33 +73,36 @@ followed-same : (a : Answer Part) (f g : ℕ → Answer (List Part)) → ((p : P
 followed-same (given p) f g same = ap (first p) (same p refl)
 followed-same (refused n at) f g same = refl
 
--- bytes of the element before are passed over
-until-skip : (l : List ℕ) (skip at : ℕ) → untilEnd l skip at ≡ untilEnd (drop skip l) 0 (at + skip)
-unfolding untilEnd
-until-skip [] skip at = rw (drop-nil skip)
-until-skip (b ∷ l) zero at = rw (add-zero at)
-until-skip (b ∷ l) (suc skip) at =
-    let e : at + 1 + skip ≡ at + suc skip = omega arith in
-    until-skip l skip (at + 1) ∙ ap (untilEnd (drop skip l) 0) e
-
 -- a cursor further on in what is left
 drop-next : (l : List ℕ) (at next : ℕ) → at ≤ next → drop (next - at) (drop at l) ≡ drop next l
 drop-next l at next h =
     let e : at + (next - at) ≡ next = omega arith in
     drop-drop (next - at) at l ∙ ap (λ (k : ℕ). drop k l) e
 
-pub until-step : (l : List ℕ) (at : ℕ) → 0 < length l
-    → untilEnd l 0 at ≡ followed (elementAt true at l) (λ next. untilEnd (drop (next - at) l) 0 next)
-unfolding untilEnd
-until-step [] at h = absurd (omega arith)
-until-step (b ∷ l) at h =
-    followed-same (elementAt true at (b ∷ l)) _ _
-    (λ p e.
-    let lies : Lies at (at + length (b ∷ l)) p = element-lies true at (b ∷ l) p e in
-    let s : ℕ = p .next - at - 1 in
-    let m : at + 1 + s ≡ p .next = omega arith in
-    let k : suc s ≡ p .next - at = omega arith in
-    until-skip l s (at + 1) ∙ ap (untilEnd (drop s l) 0) m ∙ ap (λ (j : ℕ). untilEnd (drop j (b ∷ l)) 0 (p .next)) k)
+-- an item of the stream of elements has a byte
+pub element-some : (at : ℕ) (l : List ℕ) → Some (elementNext at l)
+element-some at l = go (elementAt true at l) (element-found true at l)
+  where
+    go : (x : Answer Part) → Found at (at + length l) x → Some (elementBy at x)
+    go (given p) f = omega arith
+    go (refused n a) f = tt
+
+-- an element, and all that follow it
+pub whole-more : (p : Part) (s : Stream Part (Answer (Unit {0}))) → whole (record { items = p ∷ s .items; stop = s .stop }) ≡ first p (whole s)
+whole-more p s = by-stop (s .stop)
+  where
+    by-stop : (x : Answer (Unit {0})) → wholeBy (p ∷ s .items) x ≡ first p (wholeBy (s .items) x)
+    by-stop (given t) = refl
+    by-stop (refused n a) = refl
+
+whole-followed : (at : ℕ) (l : List ℕ) (x : Answer Part)
+    → whole (chained (elementBy at x) (λ n next. readFrom (drop n l) next)) ≡ followed x (λ next. untilEnd (drop (next - at) l) next)
+whole-followed at l (given p) = whole-more p (readFrom (drop (p .next - at) l) (p .next))
+whole-followed at l (refused n a) = refl
+
+pub until-step : (l : List ℕ) (at : ℕ) → 0 < length l → untilEnd l at ≡ followed (elementAt true at l) (λ next. untilEnd (drop (next - at) l) next)
+until-step l at h =
+    ap whole (stream-step elementNext (given tt) element-some l at (omega arith)) ∙ whole-followed at l (elementAt true at l)
 
 -- the last of so many is the one that has no length field
 last-one : (w n : ℕ) → n < w → eqb (w - n - 1) 0 ≡ eqb (n + 1) w
@@ -132,26 +137,26 @@ module _ (payload : List ℕ) (w n at : ℕ) (h : at ≤ length payload) where
   from-step = go (eqb w 0) refl
     where
       go : (t : Bool) → eqb w 0 ≡ t → cond t (ltb 0 (length payload - at)) (ltb n w) ≡ true
-          → cond t (untilEnd (drop at payload) 0 at) (exactly (w - n) (drop at payload) at)
+          → cond t (untilEnd (drop at payload) at) (exactly (w - n) (drop at payload) at)
           ≡ followed (elementAt (hasField w n) at (drop at payload))
-          (λ next. cond t (untilEnd (drop next payload) 0 next) (exactly (w - (n + 1)) (drop next payload) next))
+          (λ next. cond t (untilEnd (drop next payload) next) (exactly (w - (n + 1)) (drop next payload) next))
       go true q d =
           let z : w ≡ 0 = eqb-true w 0 q in
           let f : true ≡ hasField w n = ap not (sym (ne-eqb (n + 1) w (λ e. omega arith))) in
           let k : 0 < length payload - at = ltb-true 0 (length payload - at) d in
           until-step (drop at payload) at (omega (arith, length-drop at payload))
-          ∙ ap (λ (b : Bool). followed (elementAt b at (drop at payload)) (λ next. untilEnd (drop (next - at) (drop at payload)) 0 next)) f
-          ∙ from-next (λ next l. untilEnd l 0 next)
+          ∙ ap (λ (b : Bool). followed (elementAt b at (drop at payload)) (λ next. untilEnd (drop (next - at) (drop at payload)) next)) f
+          ∙ from-next (λ next l. untilEnd l next)
       go false q d =
           exactly-step (drop at payload) w n at (ltb-true n w d)
           ∙ from-next (λ next l. exactly (w - (n + 1)) l next)
 
   pub from-end : isDue w n (length payload - at) ≡ false → elementsFrom payload w n at ≡ given []
-  unfolding untilEnd exactly
+  unfolding streamFrom exactly
   from-end = go (eqb w 0)
     where
       go : (t : Bool) → cond t (ltb 0 (length payload - at)) (ltb n w) ≡ false
-          → cond t (untilEnd (drop at payload) 0 at) (exactly (w - n) (drop at payload) at) ≡ given []
+          → cond t (untilEnd (drop at payload) at) (exactly (w - n) (drop at payload) at) ≡ given []
       go true d =
           let k : length payload - at ≤ 0 = ltb-false 0 (length payload - at) d in
           rw (drop-of-length-le payload {i = at} (omega arith))
@@ -168,8 +173,8 @@ module _ (payload : List ℕ) (w : ℕ) where
   from-first h = go (eqb w 0)
     where
       go : (t : Bool) → cond t (ltb 0 (length payload - 1)) (ltb 0 w) ≡ true
-          → cond t (cond (eqb (length (drop 1 payload)) 0) (refused 17 1) (untilEnd (drop 1 payload) 0 1)) (exactly w (drop 1 payload) 1)
-          ≡ cond t (untilEnd (drop 1 payload) 0 1) (exactly (w - 0) (drop 1 payload) 1)
+          → cond t (cond (eqb (length (drop 1 payload)) 0) (refused 17 1) (untilEnd (drop 1 payload) 1)) (exactly w (drop 1 payload) 1)
+          ≡ cond t (untilEnd (drop 1 payload) 1) (exactly (w - 0) (drop 1 payload) 1)
       go true d =
           let k : 0 < length payload - 1 = ltb-true 0 (length payload - 1) d in
           rw (ne-eqb (length (drop 1 payload)) 0 (λ e. omega (arith, length-drop 1 payload)))
@@ -180,7 +185,7 @@ module _ (payload : List ℕ) (w : ℕ) where
   from-none = go (eqb w 0) refl
     where
       go : (t : Bool) → eqb w 0 ≡ t → cond t (ltb 0 (length payload - 1)) (ltb 0 w) ≡ false
-          → cond t (cond (eqb (length (drop 1 payload)) 0) (refused 17 1) (untilEnd (drop 1 payload) 0 1)) (exactly w (drop 1 payload) 1)
+          → cond t (cond (eqb (length (drop 1 payload)) 0) (refused 17 1) (untilEnd (drop 1 payload) 1)) (exactly w (drop 1 payload) 1)
           ≡ refused 17 1
       go true q d =
           let k : length payload - 1 ≤ 0 = ltb-false 0 (length payload - 1) d in

@@ -5,7 +5,6 @@
 --     there, beyond, none    element k lies in the payload and has a byte, if there is one; else it is the empty part at the start
 use mathlib.Core.Path.{_≡_, refl, sym, ap, subst, _∙_}
 use Prim.Native.Nat.{ℕ, zero, suc, _+_, _-_, _≤_, _<_}
-use native.Mathlib.Nat.{add-zero}
 use native.Mathlib.Omega.{arith}
 use mathlib.Core.List.{List, [], _∷_}
 use mathlib.Core.Bool.{Bool, true, false, cond, not, _&&_}
@@ -13,12 +12,14 @@ use lib.ListN.{length, getD, drop, length-drop, List·getD-eq-default}
 use lib.Dec.{eqb, ltb}
 use borrow.Author.Tests.{eqb-false, ltb-true, ltb-false, eq-eqb, ne-eqb}
 use Rattle.base.specs.Answers.{Answer, given, refused}
+use Rattle.base.specs.Streams.{Stream, chained, whole}
 use Rattle.base.proofs.Tests.{by-cond, split-on}
+use Rattle.base.proofs.Streams.{After, stream-each}
 use Rattle.element.specs.Header.{zBit, wOf, nBit}
-use Rattle.element.specs.Elements.{elementAt, first, followed, untilEnd, exactly, counting, elementsOf, payloadElements, payloadLimit, nowhere, chosen, elementOf}
+use Rattle.element.specs.Elements.{elementAt, first, followed, elementBy, elementNext, readFrom, untilEnd, exactly, counting, elementsOf, payloadElements, payloadLimit, nowhere, chosen, elementOf}
 use Rattle.element.specs.Laws.{Lies, InOrder}
 use Rattle.element.specs.declared.Part.{Part}
-use Rattle.element.proofs.Laws.{Found, element-found}
+use Rattle.element.proofs.Laws.{Found, element-found, element-some, whole-more, until-step}
 
 -- ---- in order, without overlap, within the payload
 
@@ -38,20 +39,20 @@ followed-in : (at end : ℕ) (x : Answer Part) (f : ℕ → Answer (List Part)) 
 followed-in at end (given p) f l h = first-in at end p (f (p .next)) l (h p l)
 followed-in at end (refused n a) f l h = tt
 
-until-in : (l : List ℕ) (skip at : ℕ) → AllIn (at + skip) (at + length l) (untilEnd l skip at)
-unfolding untilEnd
-until-in [] skip at = tt
-until-in (b ∷ l) zero at =
-    rw (add-zero at)
-    (followed-in at (at + length (b ∷ l)) (elementAt true at (b ∷ l)) _ (element-found true at (b ∷ l))
-    (λ p s.
-    let e : at + 1 + (p .next - at - 1) ≡ p .next = omega arith in
-    let f : at + 1 + length l ≡ at + length (b ∷ l) = omega arith in
-    all-same (untilEnd l (p .next - at - 1) (at + 1)) e f (until-in l (p .next - at - 1) (at + 1))))
-until-in (b ∷ l) (suc skip) at =
-    let e : at + 1 + skip ≡ at + suc skip = omega arith in
-    let f : at + 1 + length l ≡ at + length (b ∷ l) = omega arith in
-    all-same (untilEnd l skip (at + 1)) e f (until-in l skip (at + 1))
+-- of a stream of elements, the first of which begins at `at`
+abbrev WholeIn : List ℕ → ℕ → Stream Part (Answer (Unit {0})) → Type 0
+WholeIn l at s = AllIn at (at + length l) (whole s)
+
+in-next : (at : ℕ) (l : List ℕ) (x : Answer Part) → Found at (at + length l) x → After WholeIn readFrom l (elementBy at x)
+    → WholeIn l at (chained (elementBy at x) (λ n next. readFrom (drop n l) next))
+in-next at l (refused n a) f r = tt
+in-next at l (given p) f r =
+    let e : p .next + length (drop (p .next - at) l) ≡ at + length l = omega (arith, length-drop (p .next - at) l) in
+    let x : Answer (List Part) = untilEnd (drop (p .next - at) l) (p .next) in
+    subst (AllIn at (at + length l)) (sym (whole-more p (readFrom (drop (p .next - at) l) (p .next)))) (first-in at (at + length l) p x f (all-same {a = p .next} x refl e r))
+
+until-in : (l : List ℕ) (at : ℕ) → AllIn at (at + length l) (untilEnd l at)
+until-in = stream-each elementNext (given tt) element-some WholeIn (λ at. tt) (λ at l h r. in-next at l (elementAt true at l) (element-found true at l) r)
 
 exactly-in : (n : ℕ) (l : List ℕ) (at : ℕ) → AllIn at (at + length l) (exactly n l at)
 unfolding exactly
@@ -72,7 +73,7 @@ elements-in (h ∷ l) =
     (λ t. tt)
     (λ t.
     by-cond (AllIn 1 (1 + length l)) (eqb (wOf h) 0) _ _
-    (λ u. by-cond (AllIn 1 (1 + length l)) (eqb (length l) 0) _ _ (λ v. tt) (λ v. until-in l 0 1))
+    (λ u. by-cond (AllIn 1 (1 + length l)) (eqb (length l) 0) _ _ (λ v. tt) (λ v. until-in l 1))
     (λ u. exactly-in (wOf h) l 1)))
 
 pub in-order : (payload : List ℕ) (ps : List Part) → elementsOf payload ≡ given ps → InOrder 1 (length payload) ps
@@ -110,10 +111,8 @@ followed-some (given p) f = go (f (p .next))
     go (given ps) = omega arith
     go (refused k a) = tt
 
-until-some : (l : List ℕ) (at : ℕ) → 0 < length l → Some (untilEnd l 0 at)
-unfolding untilEnd
-until-some [] at h = absurd (omega arith)
-until-some (b ∷ l) at h = followed-some (elementAt true at (b ∷ l)) _
+until-some : (l : List ℕ) (at : ℕ) → 0 < length l → Some (untilEnd l at)
+until-some l at h = subst Some (sym (until-step l at h)) (followed-some (elementAt true at l) (λ next. untilEnd (drop (next - at) l) next))
 
 module _ (w : ℕ) (l : List ℕ) (ps : List Part) (e : counting w l ≡ given ps) where
   pub count-w : (w ≡ 0 → ⊥) → length ps ≡ w
@@ -125,7 +124,7 @@ module _ (w : ℕ) (l : List ℕ) (ps : List Part) (e : counting w l ≡ given p
   pub count-end : w ≡ 0 → 1 ≤ length ps
   unfolding counting
   count-end z =
-      let c : cond (eqb (length l) 0) (refused 17 1) (untilEnd l 0 1) ≡ given ps = sym (rw (eq-eqb w 0 z)) ∙ e in
+      let c : cond (eqb (length l) 0) (refused 17 1) (untilEnd l 1) ≡ given ps = sym (rw (eq-eqb w 0 z)) ∙ e in
       subst Some c
       (by-cond Some (eqb (length l) 0) _ _ (λ t. tt) (λ t. let n : length l ≡ 0 → ⊥ = eqb-false (length l) 0 t in until-some l 1 (omega arith)))
 

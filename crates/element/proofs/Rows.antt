@@ -3,8 +3,9 @@ use mathlib.Core.Path.{_≡_, refl}
 use Prim.Native.Nat.{ℕ}
 use mathlib.Core.List.{List, [], _∷_, map}
 use Rattle.base.specs.Answers.{Answer, given, refused}
+use Rattle.base.specs.Streams.{streamFrom}
 use Rattle.leb128.specs.Field.{fieldIn}
-use Rattle.element.specs.Elements.{bytesOf, elementAt, untilEnd, exactly, counting, elementsOf, payloadElements, elementOf}
+use Rattle.element.specs.Elements.{bytesOf, elementAt, exactly, counting, elementsOf, payloadElements, elementOf}
 use Rattle.element.specs.declared.Part.{Part}
 
 -- a payload's elements as bytes
@@ -37,7 +38,7 @@ refusals :
     map read bad
     ≡ refused 13 0 ∷ refused 15 0 ∷ refused 17 1 ∷ refused 17 1 ∷ refused 16 1 ∷ refused 16 1 ∷ refused 17 3 ∷ refused 16 3
     ∷ refused 17 3 ∷ refused 17 3 ∷ refused 16 3 ∷ refused 16 1 ∷ refused 17 1 ∷ []
-unfolding bad payloadElements elementsOf counting untilEnd exactly elementAt fieldIn
+unfolding bad payloadElements elementsOf counting streamFrom exactly elementAt fieldIn
 refusals = refl
 
 -- the payloads of U3, U6, U8 and U9, one of a padded length field, and one with every bit set that is ignored
@@ -62,7 +63,7 @@ elements :
     ∷ given ((0x30 ∷ []) ∷ (0x31 ∷ []) ∷ (0x32 ∷ []) ∷ (0x33 ∷ []) ∷ [])
     ∷ given ((0x30 ∷ 0xa1 ∷ []) ∷ (0x31 ∷ []) ∷ [])
     ∷ []
-unfolding good payloadElements elementsOf counting untilEnd exactly elementAt fieldIn
+unfolding good payloadElements elementsOf counting streamFrom exactly elementAt fieldIn
 elements = refl
 
 -- element 1 of U6, and none where the last element is bad
@@ -73,5 +74,5 @@ one :
     ∷ (0x10 ∷ 0x30 ∷ [])
     ∷ [])
     ≡ record { start = 6; length = 2; next = 8 } ∷ record { start = 0; length = 0; next = 0 } ∷ record { start = 0; length = 0; next = 0 } ∷ []
-unfolding payloadElements elementsOf counting untilEnd exactly elementAt fieldIn
+unfolding payloadElements elementsOf counting streamFrom exactly elementAt fieldIn
 one = refl

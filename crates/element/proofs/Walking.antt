@@ -1,16 +1,16 @@
 -- The walk through all elements, turn by turn. Assumes nothing.
-use mathlib.Core.Path.{_≡_, refl, sym, ap, ap₂, _∙_}
+use mathlib.Core.Path.{_≡_, refl, sym, ap, _∙_}
 use Prim.Native.Nat.{ℕ, zero, suc, _+_, _-_, _≤_, _<_, compare·suc-suc}
 use native.Mathlib.Omega.{arith}
 use mathlib.Core.List.{List, [], _∷_, _++_, append-nil}
 use mathlib.Core.Bool.{true, false, cond}
 use lib.ListN.{length, getD, drop, length-append}
-use lib.Seq.{append-snoc}
+use lib.Seq.{append-snoc, getD-append-seam}
 use lib.Dec.{eqb}
 use borrow.Author.Tests.{ne-eqb}
 use Rattle.base.specs.Answers.{Answer, given, refused}
 use Rattle.element.specs.Elements.{elementAt, first, followed, counting, isDue, hasField, nowhere, chosen}
-use Rattle.element.specs.Paper.{walked}
+use Rattle.element.specs.Paper.{walkedOf, walked, withPart}
 use Rattle.element.specs.Laws.{Lies, elementsFrom}
 use Rattle.element.specs.declared.Part.{Part}
 use Rattle.element.specs.declared.Walked.{Walked}
@@ -25,24 +25,26 @@ prefixed-first : (found : List Part) (p : Part) (a : Answer (List Part)) → pre
 prefixed-first found p (given ps) = ap given (sym (append-snoc found p ps))
 prefixed-first found p (refused n at) = refl
 
--- after n elements, the next at `at`, with element k or `nowhere` kept
-pub record Walking (payload : List ℕ) (w k at n : ℕ) (kept : Part) : Type 0 where
+-- these are walked, and the next stands at `at`
+pub record Walking (payload : List ℕ) (w k at : ℕ) (all : Walked) : Type 0 where
   pub found : List Part
-  pub count : length found ≡ n
+  pub is : all ≡ walkedOf k found
   pub inside : at ≤ length payload
-  pub few : n < at
-  pub is : kept ≡ getD found k nowhere
-  pub same : counting w (drop 1 payload) ≡ prefixed found (elementsFrom payload w n at)
+  pub few : all .elements < at
+  pub same : counting w (drop 1 payload) ≡ prefixed found (elementsFrom payload w (all .elements) at)
+
+-- nothing is walked
+abbrev pub unwalked : Walked
+unwalked = record { elements = 0; kept = nowhere; last = nowhere }
 
 pub walking-first : (payload : List ℕ) (w k : ℕ) → 1 ≤ length payload → isDue w 0 (length payload - 1) ≡ true
-    → Walking payload w k 1 0 nowhere
+    → Walking payload w k 1 unwalked
 walking-first payload w k h d =
     record {
       found = [];
-      count = refl;
+      is = refl;
       inside = h;
       few = omega arith;
-      is = refl;
       same = from-first payload w h d ∙ alone (elementsFrom payload w 0 1);
     }
   where
@@ -57,46 +59,54 @@ kept-next [] p (suc k) = rw (ne-eqb 0 (suc k) (λ e. omega arith))
 kept-next (x ∷ found) p zero = rw (ne-eqb (suc (length found)) 0 (λ e. omega arith))
 kept-next (x ∷ found) p (suc k) = rw (compare·suc-suc (length found) k) (kept-next found p k)
 
-module _ (payload : List ℕ) (w k at n : ℕ) (kept : Part) (s : Walking payload w k at n kept) where
+last-next : (found : List Part) (p : Part) → p ≡ getD (found ++ (p ∷ [])) (length (found ++ (p ∷ [])) - 1) nowhere
+last-next found p =
+    let e : length (found ++ (p ∷ [])) - 1 ≡ length found = omega (arith, length-append found (p ∷ [])) in
+    rw e (sym (getD-append-seam found p [] nowhere))
+
+walked-next : (k : ℕ) (found : List Part) (p : Part) → withPart k (walkedOf k found) p ≡ walkedOf k (found ++ (p ∷ []))
+walked-next k found p = rw (kept-next found p k, ← last-next found p, length-append)
+
+module _ {payload : List ℕ} {w k at : ℕ} {all : Walked} (s : Walking payload w k at all) where
   -- what is left, where a further one is due
-  left : isDue w n (length payload - at) ≡ true
-      → counting w (drop 1 payload) ≡ prefixed (s .found) (followed (elementAt (hasField w n) at (drop at payload)) (elementsFrom payload w (n + 1)))
-  left d = s .same ∙ ap (prefixed (s .found)) (from-step payload w n at (s .inside) d)
+  left : isDue w (all .elements) (length payload - at) ≡ true
+      → counting w (drop 1 payload) ≡ prefixed (s .found) (followed (elementAt (hasField w (all .elements)) at (drop at payload)) (elementsFrom payload w (all .elements + 1)))
+  left d = s .same ∙ ap (prefixed (s .found)) (from-step payload w (all .elements) at (s .inside) d)
 
-  pub walking-bad : (m a : ℕ) → isDue w n (length payload - at) ≡ true → elementAt (hasField w n) at (drop at payload) ≡ refused m a
-      → counting w (drop 1 payload) ≡ refused m a
-  walking-bad m a d e =
-      left d ∙ ap (λ (x : Answer Part). prefixed (s .found) (followed x (elementsFrom payload w (n + 1)))) e
+  pub walking-bad : {m a : ℕ} → isDue w (all .elements) (length payload - at) ≡ true → elementAt (hasField w (all .elements)) at (drop at payload) ≡ refused m a
+      → refused m a ≡ walked k (counting w (drop 1 payload))
+  walking-bad d e =
+      sym (ap (walked k) (left d ∙ ap (λ (x : Answer Part). prefixed (s .found) (followed x (elementsFrom payload w (all .elements + 1)))) e))
 
-  pub walking-next : (p new : Part) → isDue w n (length payload - at) ≡ true → elementAt (hasField w n) at (drop at payload) ≡ given p
-      → new ≡ cond (eqb n k) p kept → Walking payload w k (p .next) (n + 1) new
-  walking-next p new d e c =
-      let l : Lies at (length payload) p = part-lies payload at (hasField w n) p (s .inside) e in
+  pub walking-next : {p : Part} {new : Walked} → isDue w (all .elements) (length payload - at) ≡ true → elementAt (hasField w (all .elements)) at (drop at payload) ≡ given p
+      → new ≡ withPart k all p → Walking payload w k (p .next) new
+  walking-next {p} {new} d e c =
+      let l : Lies at (length payload) p = part-lies payload at (hasField w (all .elements)) p (s .inside) e in
+      let n : new .elements ≡ all .elements + 1 = ap (λ (x : Walked). x .elements) c in
       record {
         found = s .found ++ (p ∷ []);
-        count = simp length-append (omega (arith, s .count));
+        is = c ∙ ap (λ (x : Walked). withPart k x p) (s .is) ∙ walked-next k (s .found) p;
         inside = l .within;
         few = omega (arith, s .few);
-        is = c ∙ ap₂ (λ (x : ℕ) (y : Part). cond (eqb x k) p y) (sym (s .count)) (s .is) ∙ kept-next (s .found) p k;
-        same = left d ∙ ap (λ (x : Answer Part). prefixed (s .found) (followed x (elementsFrom payload w (n + 1)))) e
-            ∙ prefixed-first (s .found) p (elementsFrom payload w (n + 1) (p .next));
+        same = left d ∙ ap (λ (x : Answer Part). prefixed (s .found) (followed x (elementsFrom payload w (all .elements + 1)))) e
+            ∙ prefixed-first (s .found) p (elementsFrom payload w (all .elements + 1) (p .next))
+            ∙ ap (λ (x : ℕ). prefixed (s .found ++ (p ∷ [])) (elementsFrom payload w x (p .next))) (sym n);
       }
 
-  pub walking-end : isDue w n (length payload - at) ≡ false
-      → given (record { elements = n; kept = kept }) ≡ walked k (counting w (drop 1 payload))
+  pub walking-end : isDue w (all .elements) (length payload - at) ≡ false → given all ≡ walked k (counting w (drop 1 payload))
   walking-end d =
       let e : counting w (drop 1 payload) ≡ given (s .found) =
-      s .same ∙ ap (prefixed (s .found)) (from-end payload w n at (s .inside) d) ∙ ap given (append-nil (s .found)) in
-      ap₂ (λ (x : ℕ) (y : Part). given (record { elements = x; kept = y })) (sym (s .count)) (s .is) ∙ sym (ap (walked k) e)
+      s .same ∙ ap (prefixed (s .found)) (from-end payload w (all .elements) at (s .inside) d) ∙ ap given (append-nil (s .found)) in
+      ap given (s .is) ∙ sym (ap (walked k) e)
 
--- ---- what the answer of a walk says of element k
+-- ---- what the answer of a walk says
 
-pub walked-kept : (k : ℕ) (x : Answer (List Part)) (a : Walked) → given a ≡ walked k x → a .kept ≡ chosen k x
-walked-kept k (given ps) a e =
-    let f : a ≡ record { elements = length ps; kept = chosen k (given ps) } = cc in
+pub walked-kept : (k : ℕ) (x : Answer (List Part)) {a : Walked} → given a ≡ walked k x → a .kept ≡ chosen k x
+walked-kept k (given ps) {a} e =
+    let f : a ≡ walkedOf k ps = cc in
     ap (λ (w : Walked). w .kept) f
-walked-kept k (refused n at) a e = let z : _≡_ {A = ℕ} 0 1 = cc in absurd (omega arith)
+walked-kept k (refused n at) e = let z : _≡_ {A = ℕ} 0 1 = cc in absurd (omega arith)
 
-pub walked-none : (k : ℕ) (x : Answer (List Part)) (n at : ℕ) → refused n at ≡ walked k x → nowhere ≡ chosen k x
-walked-none k (given ps) n at e = let z : _≡_ {A = ℕ} 0 1 = cc in absurd (omega arith)
-walked-none k (refused m a) n at e = refl
+pub walked-none : (k : ℕ) (x : Answer (List Part)) {n at : ℕ} → refused n at ≡ walked k x → nowhere ≡ chosen k x
+walked-none k (given ps) e = let z : _≡_ {A = ℕ} 0 1 = cc in absurd (omega arith)
+walked-none k (refused m a) e = refl

@@ -5,6 +5,7 @@ use mathlib.Core.Bool.{Bool, true, cond, not, _&&_}
 use lib.ListN.{length, getD, take, drop}
 use lib.Dec.{ltb, eqb}
 use Rattle.base.specs.Answers.{Answer, given, refused}
+use Rattle.base.specs.Streams.{Next, item, halt, Stream, streamOf, whole}
 use Rattle.leb128.specs.Field.{Field, sized, unreadable, sizeField}
 use Rattle.element.specs.Header.{zBit, wOf, nBit}
 use Rattle.element.specs.declared.Part.{Part}
@@ -46,11 +47,20 @@ abbrev pub followed : Answer Part → (ℕ → Answer (List Part)) → Answer (L
 followed (given p) rest = first p (rest (p .next))
 followed (refused n at) rest = refused n at
 
--- E2: elements with a length field until the end. Of the bytes from `at` on, the first `skip` belong to the element before
-unfoldable pub untilEnd : List ℕ → ℕ → ℕ → Answer (List Part)
-untilEnd [] skip at = given []
-untilEnd (b ∷ l) (suc skip) at = untilEnd l skip (at + 1)
-untilEnd (b ∷ l) zero at = followed (elementAt true at (b ∷ l)) (λ next. untilEnd l (next - at - 1) (at + 1))
+-- an element at `at` as an item of a stream: its cursor is known before it
+abbrev pub elementBy : ℕ → Answer Part → Next Part (Answer (Unit {0})) ℕ
+elementBy at (given p) = item p (p .next - at) (p .next)
+elementBy at (refused n a) = halt (refused n a)
+
+abbrev pub elementNext : ℕ → List ℕ → Next Part (Answer (Unit {0})) ℕ
+elementNext at l = elementBy at (elementAt true at l)
+
+-- E2: of the bytes from `at` on, elements with a length field until the end
+abbrev pub readFrom : List ℕ → ℕ → Stream Part (Answer (Unit {0}))
+readFrom l at = streamOf elementNext (given tt) l at
+
+abbrev pub untilEnd : List ℕ → ℕ → Answer (List Part)
+untilEnd l at = whole (readFrom l at)
 
 -- E3: so many elements, each but the last with a length field
 unfoldable pub exactly : ℕ → List ℕ → ℕ → Answer (List Part)
@@ -59,7 +69,7 @@ exactly (suc n) l at = followed (elementAt (not (eqb n 0)) at l) (λ next. exact
 
 -- E5: by W, on the bytes after the header
 unfoldable pub counting : ℕ → List ℕ → Answer (List Part)
-counting w l = cond (eqb w 0) (cond (eqb (length l) 0) (refused 17 1) (untilEnd l 0 1)) (exactly w l 1)
+counting w l = cond (eqb w 0) (cond (eqb (length l) 0) (refused 17 1) (untilEnd l 1)) (exactly w l 1)
 
 -- of a payload, whose first byte is its header: R15, then the elements
 unfoldable pub elementsOf : List ℕ → Answer (List Part)

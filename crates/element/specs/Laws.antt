@@ -23,7 +23,7 @@ InOrder at end (p ∷ ps) = Lies at end p × InOrder (p .next) end ps
 
 -- the elements from element n on, which begins at `at`
 abbrev pub elementsFrom : List ℕ → ℕ → ℕ → ℕ → Answer (List Part)
-elementsFrom payload w n at = cond (eqb w 0) (untilEnd (drop at payload) 0 at) (exactly (w - n) (drop at payload) at)
+elementsFrom payload w n at = cond (eqb w 0) (untilEnd (drop at payload) at) (exactly (w - n) (drop at payload) at)
 
 -- a payload whose elements, as they are read, are these bytes
 pub record ReadsAs (payload : List ℕ) (elements : List (List ℕ)) : Type 0 where

@@ -1,10 +1,12 @@
 -- The number and values that the rules have for each answer of the code.
-use Prim.Native.Nat.{ℕ}
+use Prim.Native.Nat.{ℕ, _+_, _-_}
 use mathlib.Core.List.{List}
-use lib.ListN.{length}
+use mathlib.Core.Bool.{cond}
+use lib.ListN.{length, getD}
+use lib.Dec.{eqb}
 use Rattle.base.specs.Refusals.{numberOf}
 use Rattle.base.specs.Answers.{Answer, given, refused}
-use Rattle.element.specs.Elements.{chosen}
+use Rattle.element.specs.Elements.{nowhere}
 use Rattle.element.specs.declared.Part.{Part}
 use Rattle.element.specs.declared.ElementRead.{ElementRead}
 use Rattle.element.specs.declared.ElementRead.the-variants as read
@@ -20,7 +22,14 @@ abbrev pub paperWalk : Walk → Answer Walked
 paperWalk (walk.Whole w) = given w
 paperWalk (walk.Refused r at) = refused (numberOf r) at
 
--- of all elements: how many there are, and element k
+-- of these elements: how many there are, element k, and the last
+abbrev pub walkedOf : ℕ → List Part → Walked
+walkedOf k ps = record { elements = length ps; kept = getD ps k nowhere; last = getD ps (length ps - 1) nowhere }
+
 abbrev pub walked : ℕ → Answer (List Part) → Answer Walked
-walked k (given ps) = given (record { elements = length ps; kept = chosen k (given ps) })
+walked k (given ps) = given (walkedOf k ps)
 walked k (refused n at) = refused n at
+
+-- the same of one element more
+abbrev pub withPart : ℕ → Walked → Part → Walked
+withPart k all p = record { elements = all .elements + 1; kept = cond (eqb (all .elements) k) p (all .kept); last = p }

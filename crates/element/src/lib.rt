@@ -2,14 +2,14 @@
 use base::Refusal;
 use leb128::SizeRead;
 ghost use mathlib.Core.Path.{_≡_};
-ghost use Prim.Native.Nat.{_≤_};
+ghost use Prim.Native.Nat.{_≤_, _<_};
 ghost use mathlib.Core.Bool.{cond, _&&_};
 ghost use lib.ListN.{length, drop};
 ghost use lib.Dec.{eqb};
 ghost use denote.Ref.{ptr};
 ghost use Rattle.element.specs.Header.{zBit, yBit, wOf, nBit};
 ghost use Rattle.element.specs.Elements.{elementAt, isDue, hasField, counting, payloadElements, elementOf, bytesOf, placeAt};
-ghost use Rattle.element.specs.Paper.{paperRead, paperWalk, walked};
+ghost use Rattle.element.specs.Paper.{paperRead, paperWalk, withPart, walked};
 
 // The most bytes of a payload.
 pub const PAYLOAD_LIMIT: usize = 65533;
@@ -21,16 +21,24 @@ pub struct Part {
     pub next: usize,
 }
 
+// The empty part at a payload's start.
+const NOWHERE: Part = Part {
+    start: 0,
+    length: 0,
+    next: 0,
+};
+
 // What stands at a cursor.
 pub enum ElementRead {
     Found(Part),
     Refused { refusal: Refusal, at: usize },
 }
 
-// All elements: how many there are, and the one asked for, or the empty part at the payload's start.
+// All elements: how many there are, the one asked for, and the last; where there is no such one, the empty part at the payload's start.
 pub struct Walked {
     pub elements: usize,
     pub kept: Part,
+    pub last: Part,
 }
 
 // What going through all elements finds.
@@ -166,21 +174,38 @@ fn kept_of(here: bool, part: Part, kept: Part) -> Part
     }
 }
 
-// The elements after the header, by W: how many, and element k.
+// One element more: counted, kept if it is element k, and the last so far; number by number, as above.
+fn with_part(all: Walked, k: usize, part: Part) -> Walked
+    requires { ⌜ all .elements < 18446744073709551615 ⌝ }
+    ensures { λ r. ⌜ r ≡ withPart k all part ⌝ }
+{
+    let kept = all.kept;
+    let elements = all.elements + 1;
+    Walked {
+        elements: elements,
+        kept: kept_of(all.elements == k, part, kept),
+        last: Part {
+            start: part.start,
+            length: part.length,
+            next: part.next,
+        },
+    }
+}
+
+// The elements after the header, by W: how many, element k, and the last.
 fn walk_by_w(payload: &[u8], w: usize, k: usize) -> Walk
     requires { ⌜ 1 ≤ length (now payload) ⌝ }
     ensures { λ r. ⌜ paperWalk r ≡ walked k (counting w (drop 1 (now (payload .entry)))) ⌝ }
 {
     if is_due(w, 0, payload.len() - 1) {
         let mut at: usize = 1;
-        let mut n: usize = 0;
-        let mut kept = Part {
-            start: 0,
-            length: 0,
-            next: 0,
+        let mut all = Walked {
+            elements: 0,
+            kept: NOWHERE,
+            last: NOWHERE,
         };
-        while is_due(w, n, payload.len() - at) {
-            match read_element(payload, at, has_field(w, n)) {
+        while is_due(w, all.elements, payload.len() - at) {
+            match read_element(payload, at, has_field(w, all.elements)) {
                 ElementRead::Refused { refusal, at } => {
                     return Walk::Refused {
                         refusal: refusal,
@@ -188,16 +213,12 @@ fn walk_by_w(payload: &[u8], w: usize, k: usize) -> Walk
                     };
                 }
                 ElementRead::Found(part) => {
-                    kept = kept_of(n == k, part, kept);
-                    n = n + 1;
+                    all = with_part(all, k, part);
                     at = part.next;
                 }
             }
         }
-        Walk::Whole(Walked {
-            elements: n,
-            kept: kept,
-        })
+        Walk::Whole(all)
     } else {
         Walk::Refused {
             refusal: Refusal::ElementBad,
@@ -206,7 +227,7 @@ fn walk_by_w(payload: &[u8], w: usize, k: usize) -> Walk
     }
 }
 
-// All elements of a payload, in order: how many, and element k.
+// All elements of a payload, in order: how many, element k, and the last.
 pub fn walk_elements(payload: &[u8], k: usize) -> Walk
     ensures { λ r. ⌜ paperWalk r ≡ walked k (payloadElements (now (payload .entry))) ⌝ }
 {

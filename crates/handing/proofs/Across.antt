@@ -2,29 +2,17 @@
 use mathlib.Core.Path.{_≡_, sym, ap, ap₂, _∙_}
 use Prim.Native.Nat.{ℕ, _+_, _-_, _≤_, _<_, min}
 use native.Mathlib.Omega.{arith}
-use native.Mathlib.Numerals.{add-one}
-use mathlib.Core.List.{List, [], _∷_, _++_}
-use lib.ListN.{length, take, drop, set, length-append, length-drop}
-use lib.Seq.{length-take-le, take-at, take-take, take-append-le, take-append-add, drop-append-add, drop-append-le, drop-drop, sets-eq}
+use mathlib.Core.List.{List, _++_}
+use lib.ListN.{length, take, drop, length-append, length-drop}
+use lib.Seq.{length-take-le, take-at, take-take, take-append-le, take-append-add, drop-append-add, drop-append-le, drop-drop}
 use lib.Dec.{leb}
-use borrow.Author.Tests.{leb-true, leb-false, eq-eqb, ne-eqb}
+use borrow.Author.Tests.{leb-true, leb-false}
 use Rattle.base.specs.Lists.{replaced}
 use Rattle.base.proofs.Lists.{take-drop}
 use Rattle.base.proofs.Tests.{split-on}
-use Rattle.obu.specs.Header.{extensionBit, headerSize, marked}
 use Rattle.obu.specs.Front.{headBytes}
-use Rattle.obu.specs.Wire.{extensionBytes}
 use Rattle.handing.specs.Inside.{across}
-use Rattle.handing.proofs.Lists.{replaced-more, set-one}
-
--- ---- header bytes
-
-module _ (l : List ℕ) (at h e v : ℕ) (m : v ≡ marked h) (room : at + headerSize h ≤ length l) where
-  pub header-two : extensionBit h ≡ 1 → set (set l at v) (at + 1) e ≡ replaced l at (marked h ∷ extensionBytes h e)
-  header-two x = rw (m, add-one at, eq-eqb (extensionBit h) 1 x) (sets-eq (marked h ∷ e ∷ []) l at (omega arith))
-
-  pub header-one : extensionBit h ≡ 0 → set l at v ≡ replaced l at (marked h ∷ extensionBytes h e)
-  header-one x = rw (m, ne-eqb (extensionBit h) 1 (λ y. omega arith)) (set-one l at (marked h) (omega arith))
+use Rattle.handing.proofs.Lists.{replaced-more}
 
 module _ (store payload : List ℕ) (kept start size : ℕ) (h : kept ≤ length store) (p : start + size ≤ length payload) where
   kept-length : length (take kept store) ≡ kept

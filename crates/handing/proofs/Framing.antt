@@ -15,7 +15,8 @@ use Rattle.leb128.proofs.Theorems.{size-most}
 use Rattle.obu.specs.Header.{typeOf, extensionBit, headerSize, marked, drops}
 use Rattle.obu.specs.Front.{Front, startOf, spanOf, Seen, found, stopped, frontOf}
 use Rattle.obu.specs.Wire.{extensionBytes, exactly, wholeOf, framed, wire}
-use Rattle.handing.specs.Inside.{counted, putAt}
+use Rattle.handing.specs.Inside.{handedOf, counted, putAt}
+use Rattle.handing.specs.declared.Handed.{Handed}
 use Rattle.handing.proofs.Lists.{replaced-none, replaced-more}
 
 extension-length : (h e : ℕ) → length (extensionBytes h e) ≡ extensionBit h
@@ -87,20 +88,20 @@ module _ (all : List ℕ) where
   wire-broken n at e = rw (← e)
 
 -- the promise of one finished OBU
-abbrev pub Finished : Answer (List ℕ) → List ℕ → ℕ → Bool → Answer ℕ → List ℕ → Type 0
+abbrev pub Finished : Answer (List ℕ) → List ℕ → ℕ → Bool → Answer Handed → List ℕ → Type 0
 Finished w out at write answer after = (answer ≡ counted w) × (after ≡ cond write (putAt out at w) out)
 
 module _ (w : Answer (List ℕ)) (out : List ℕ) (at : ℕ) (write : Bool) where
-  pub finished-none : w ≡ given [] → Finished w out at write (given 0) out
+  pub finished-none : w ≡ given [] → Finished w out at write (given (handedOf [])) out
   finished-none e = rw e (refl, same write)
     where
       same : (t : Bool) → out ≡ cond t (replaced out at []) out
       same true = sym (replaced-none out at)
       same false = refl
 
-  pub finished-bad : (n a : ℕ) → w ≡ refused n a → Finished w out at write (refused n a) out
-  finished-bad n a e = rw e (refl, sym (cond-same write out))
+  pub finished-bad : {n a : ℕ} → w ≡ refused n a → Finished w out at write (refused n a) out
+  finished-bad e = rw e (refl, sym (cond-same write out))
 
-  pub finished-some : (bytes after : List ℕ) (n : ℕ) → w ≡ given bytes → n ≡ length bytes → after ≡ cond write (replaced out at bytes) out
-      → Finished w out at write (given n) after
-  finished-some bytes after n e l p = rw e (ap given l, p)
+  pub finished-some : {bytes after : List ℕ} {h : Handed} → w ≡ given bytes → h ≡ handedOf bytes → after ≡ cond write (replaced out at bytes) out
+      → Finished w out at write (given h) after
+  finished-some e l p = rw e (ap given l, p)

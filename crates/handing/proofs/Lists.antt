@@ -1,12 +1,11 @@
 -- Laws of lists: what is replaced in a list, piece after piece. Assumes nothing.
 use mathlib.Core.Path.{_≡_, sym, ap, _∙_}
-use Prim.Native.Nat.{ℕ, suc, _+_, _≤_, _<_}
+use Prim.Native.Nat.{ℕ, _+_, _≤_}
 use native.Mathlib.Nat.{add-zero}
-use native.Mathlib.Numerals.{add-one}
 use native.Mathlib.Omega.{arith}
-use mathlib.Core.List.{List, [], _∷_, _++_, append-nil, append-assoc}
-use lib.ListN.{length, take, drop, set, length-append, length-drop, take-append-drop}
-use lib.Seq.{length-take-le, take-at, drop-append-add, drop-drop, set-split}
+use mathlib.Core.List.{List, [], _++_, append-nil, append-assoc}
+use lib.ListN.{length, take, drop, length-append, length-drop, take-append-drop}
+use lib.Seq.{length-take-le, take-at, drop-append-add, drop-drop}
 use Rattle.base.specs.Lists.{replaced, front}
 
 module _ {A : Type 0} where
@@ -31,10 +30,6 @@ module _ {A : Type 0} where
     where
       sum : length (a ++ b) ≡ length a + length b → at + length a + length b ≡ at + length (a ++ b)
       sum e = omega arith
-
-  -- one element stored
-  pub set-one : (l : List A) (at : ℕ) (v : A) → at < length l → set l at v ≡ replaced l at (v ∷ [])
-  set-one l at v h = set-split l at v h ∙ rw (add-one at) (sym (append-assoc (take at l) (v ∷ []) (drop (suc at) l)))
 
   pub front-length : (new l : List A) → length new ≤ length l → length (front new l) ≡ length l
   front-length new l h = simp (length-append, length-drop) (omega arith)

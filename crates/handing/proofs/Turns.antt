@@ -19,7 +19,8 @@ use Rattle.element.specs.Elements.{bytesOf, nowhere, payloadElements}
 use Rattle.element.specs.Laws.{Lies}
 use Rattle.element.specs.declared.Part.{Part}
 use Rattle.handing.specs.Handing.{fragmentLimit, before, wires}
-use Rattle.handing.specs.Inside.{across, counted, RoomAt, putAt, putFirst, partsOf, cursorOf, led, between}
+use Rattle.handing.specs.Inside.{across, handedOf, both, counted, RoomAt, putAt, putFirst, partsOf, cursorOf, led, between, Finishing}
+use Rattle.handing.specs.declared.Handed.{Handed}
 use Rattle.handing.proofs.Wires.{before-assoc, before-none}
 use Rattle.handing.proofs.Cursors.{cursor-next, payload-small, part-at}
 use Rattle.handing.proofs.Across.{across-length}
@@ -52,14 +53,17 @@ wire-grows all bytes small e = go (wholeOf all) refl
 
 -- ---- answers
 
--- what was counted
-pub counted-given : (w : Answer (List ℕ)) (n : ℕ) → given n ≡ counted w → (bytes : List ℕ) × (w ≡ given bytes) × (n ≡ length bytes)
-counted-given (given bytes) n e = let h : n ≡ length bytes = cc in (bytes, refl, h)
-counted-given (refused k at) n e = let z : _≡_ {A = ℕ} 0 1 = cc in absurd (omega arith)
+both-handed : (a b : List ℕ) → both (handedOf a) (handedOf b) ≡ handedOf (a ++ b)
+both-handed a b = rw length-append
 
-pub counted-refused : (w : Answer (List ℕ)) (n at : ℕ) → refused n at ≡ counted w → w ≡ refused n at
-counted-refused (given bytes) n at e = let z : _≡_ {A = ℕ} 0 1 = cc in absurd (omega arith)
-counted-refused (refused k a) n at e =
+-- what was counted
+pub counted-given : (w : Answer (List ℕ)) {h : Handed} → given h ≡ counted w → (bytes : List ℕ) × (w ≡ given bytes) × (h ≡ handedOf bytes)
+counted-given (given bytes) {h} e = let f : h ≡ handedOf bytes = cc in (bytes, refl, f)
+counted-given (refused k at) e = let z : _≡_ {A = ℕ} 0 1 = cc in absurd (omega arith)
+
+pub counted-refused : (w : Answer (List ℕ)) {n at : ℕ} → refused n at ≡ counted w → w ≡ refused n at
+counted-refused (given bytes) e = let z : _≡_ {A = ℕ} 0 1 = cc in absurd (omega arith)
+counted-refused (refused k a) {n} {at} e =
     let h : k ≡ n = cc in
     let j : a ≡ at = cc in
     ap₂ refused h j
@@ -94,28 +98,27 @@ between-end store payload kept i to h = let n : to - i ≡ 0 = omega arith in rw
 
 -- ---- what the loop keeps: those before element i are finished, and what goes out for them is stored where told to
 
-pub record Handing (payload store : List ℕ) (from to joined : ℕ) (write : Bool) (out₀ : List ℕ) (at i kept bytes : ℕ) (out : List ℕ) : Type 0 where
+pub record Handing (payload store : List ℕ) (from to joined : ℕ) (write : Bool) (out₀ : List ℕ) (at i kept : ℕ) (sum : Handed) (out : List ℕ) : Type 0 where
   pub done : List ℕ
   pub cursor : at ≡ cursorOf (partsOf payload) i
   pub within : i ≤ length (partsOf payload)
   pub stored : kept ≤ length store
   pub small : kept ≤ fragmentLimit
-  pub bound : bytes + kept ≤ fragmentLimit + 4 * at
+  pub bound : sum .bytes + kept ≤ fragmentLimit + 4 * at
   pub same : length out ≡ length out₀
-  pub count : length done ≡ bytes
+  pub count : sum ≡ handedOf done
   pub wrote : out ≡ cond write (front done out₀) out₀
   pub all : wires (between store joined payload from to) ≡ before (given done) (wires (between store kept payload i to))
 
-pub handing-first : (payload store : List ℕ) (cursor from to joined : ℕ) (write : Bool) (out : List ℕ) → cursor ≡ cursorOf (partsOf payload) from
-    → from ≤ length (partsOf payload) → joined ≤ length store → joined ≤ fragmentLimit
-    → Handing payload store from to joined write out cursor from joined 0 out
-handing-first payload store cursor from to joined write out c f j l =
+pub handing-first : {payload store : List ℕ} {cursor from to joined : ℕ} → Finishing payload cursor from to store joined → (write : Bool) (out : List ℕ)
+    → Handing payload store from to joined write out cursor from joined (handedOf []) out
+handing-first {payload} {store} {cursor} {from} {to} {joined} f write out =
     record {
       done = [];
-      cursor = c;
-      within = f;
-      stored = j;
-      small = l;
+      cursor = f .cursor-is;
+      within = f .from-in;
+      stored = f .stored;
+      small = f .small;
       bound = omega arith;
       same = refl;
       count = refl;
@@ -127,22 +130,25 @@ handing-first payload store cursor from to joined write out c f j l =
     same true = refl
     same false = refl
 
-module _ (payload store : List ℕ) (from to joined : ℕ) (write : Bool) (out₀ : List ℕ) (at i kept bytes : ℕ) (out : List ℕ)
-    (s : Handing payload store from to joined write out₀ at i kept bytes out) (whole : payloadElements payload ≡ given (partsOf payload)) where
+module _ {payload store : List ℕ} {from to joined : ℕ} {write : Bool} {out₀ : List ℕ} {at i kept : ℕ} {sum : Handed} {out : List ℕ}
+    (s : Handing payload store from to joined write out₀ at i kept sum out) (whole : payloadElements payload ≡ given (partsOf payload)) where
+  bytes-done : sum .bytes ≡ length (s .done)
+  bytes-done = ap (λ (h : Handed). h .bytes) (s .count)
+
   -- the answer, and what stands in the output
-  abbrev Ends : Answer ℕ → Type 0
+  abbrev Ends : Answer Handed → Type 0
   Ends answer =
       (answer ≡ counted (wires (between store joined payload from to)))
       × (out ≡ cond write (putFirst out₀ (wires (between store joined payload from to))) out₀)
 
-  pub handing-end : to ≤ i → Ends (given bytes)
+  pub handing-end : to ≤ i → Ends (given sum)
   unfolding wires
   handing-end h =
       let e : wires (between store joined payload from to) ≡ given (s .done) =
       s .all ∙ ap (λ (os : List (List ℕ)). before (given (s .done)) (wires os)) (between-end store payload kept i to h) ∙ ap given (append-nil (s .done)) in
-      (ap given (sym (s .count)) ∙ sym (ap counted e), s .wrote ∙ ap (λ (w : Answer (List ℕ)). cond write (putFirst out₀ w) out₀) (sym e))
+      (ap given (s .count) ∙ sym (ap counted e), s .wrote ∙ ap (λ (w : Answer (List ℕ)). cond write (putFirst out₀ w) out₀) (sym e))
 
-  module _ (p : Part) (here : p ≡ getD (partsOf payload) i nowhere) (more : i < to) (some : i < length (partsOf payload)) where
+  module _ {p : Part} (here : p ≡ getD (partsOf payload) i nowhere) (more : i < to) (some : i < length (partsOf payload)) where
     pub handing-part : Lies at (length payload) p
     handing-part =
         subst (λ (q : Part). Lies at (length payload) q) (sym here)
@@ -168,14 +174,14 @@ module _ (payload store : List ℕ) (from to joined : ℕ) (write : Bool) (out�
         let n : length obu ≡ kept + p .length = across-length store payload kept (p .start) (p .length) (s .stored) (omega arith) in
         omega (arith, n, handing-size, wire-grows obu b (omega (arith, n, handing-size)) e)
 
-    pub handing-room : (write ≡ true → RoomAt (length out₀) 0 (wires (between store joined payload from to))) → write ≡ true → RoomAt (length out) bytes (wire obu)
+    pub handing-room : (write ≡ true → RoomAt (length out₀) 0 (wires (between store joined payload from to))) → write ≡ true → RoomAt (length out) (sum .bytes) (wire obu)
     handing-room room t =
         let r : RoomAt (length out₀) (length (s .done)) (wire obu) =
         room-next (length out₀) (s .done) (wire obu) (wires (between store 0 payload (i + 1) to)) (subst (RoomAt (length out₀) 0) all-next (room t)) in
-        rw (s .same, ← s .count) r
+        rw (s .same, bytes-done) r
 
     pub handing-broken : (n a : ℕ) → (write ≡ true → RoomAt (length out₀) 0 (wires (between store joined payload from to))) → wire obu ≡ refused n a
-        → (new : List ℕ) → new ≡ cond write (putAt out bytes (wire obu)) out
+        → (new : List ℕ) → new ≡ cond write (putAt out (sum .bytes) (wire obu)) out
         → (refused n a ≡ counted (wires (between store joined payload from to)))
         × (new ≡ cond write (putFirst out₀ (wires (between store joined payload from to))) out₀)
     handing-broken n a room e new f =
@@ -187,18 +193,21 @@ module _ (payload store : List ℕ) (from to joined : ℕ) (write : Bool) (out�
         unwritten true never e = absurd (never refl)
         unwritten false never e = e
 
-    pub handing-next : (new b : List ℕ) (n : ℕ) → wire obu ≡ given b → n ≡ length b → length new ≡ length out → new ≡ cond write (putAt out bytes (wire obu)) out
-        → Handing payload store from to joined write out₀ (p .next) (i + 1) 0 (bytes + n) new
-    handing-next new b n e l k f =
+    pub handing-next : {new b : List ℕ} {one next : Handed} → wire obu ≡ given b → one ≡ handedOf b → next ≡ both sum one → length new ≡ length out
+        → new ≡ cond write (putAt out (sum .bytes) (wire obu)) out
+        → Handing payload store from to joined write out₀ (p .next) (i + 1) 0 next new
+    handing-next {new} {b} {one} {next} e l m k f =
+        let c : next ≡ handedOf (s .done ++ b) = m ∙ ap₂ both (s .count) l ∙ both-handed (s .done) b in
+        let n : next .bytes ≡ length (s .done ++ b) = ap (λ (h : Handed). h .bytes) c in
         record {
           done = s .done ++ b;
           cursor = ap (λ (q : Part). q .next) here ∙ sym (cursor-next (partsOf payload) i);
           within = omega arith;
           stored = omega arith;
           small = omega arith;
-          bound = let h = handing-part in omega (arith, handing-most b e);
+          bound = let h = handing-part in omega (arith, n, length-append (s .done) b, bytes-done, handing-most b e);
           same = k ∙ s .same;
-          count = length-append (s .done) b ∙ ap₂ _+_ (s .count) (sym l);
+          count = c;
           wrote = f ∙ rw e (written write (s .wrote));
           all =
               all-next
@@ -206,6 +215,6 @@ module _ (payload store : List ℕ) (from to joined : ℕ) (write : Bool) (out�
               ∙ sym (before-assoc (given (s .done)) (given b) (wires (between store 0 payload (i + 1) to)));
         }
       where
-        written : (t : Bool) → out ≡ cond t (front (s .done) out₀) out₀ → cond t (replaced out bytes b) out ≡ cond t (front (s .done ++ b) out₀) out₀
-        written true e = ap₂ (λ (x : List ℕ) (m : ℕ). replaced x m b) e (sym (s .count)) ∙ front-more (s .done) b out₀
+        written : (t : Bool) → out ≡ cond t (front (s .done) out₀) out₀ → cond t (replaced out (sum .bytes) b) out ≡ cond t (front (s .done ++ b) out₀) out₀
+        written true e = ap₂ (λ (x : List ℕ) (m : ℕ). replaced x m b) e bytes-done ∙ front-more (s .done) b out₀
         written false e = e

@@ -1,5 +1,6 @@
--- What the functions that hand out promise; the contract of the receive call cites none of this.
-use Prim.Native.Nat.{ℕ, _+_, _-_, _≤_}
+-- What the functions that hand out ask and promise; the contract of the receive call cites none of this.
+use mathlib.Core.Path.{_≡_}
+use Prim.Native.Nat.{ℕ, _+_, _-_, _≤_, _<_}
 use mathlib.Core.List.{List, [], _∷_, _++_, map}
 use mathlib.Core.Bool.{cond}
 use lib.ListN.{length, getD, take, drop}
@@ -8,6 +9,9 @@ use Rattle.base.specs.Answers.{Answer, given, refused}
 use Rattle.base.specs.Lists.{replaced, front}
 use Rattle.element.specs.Elements.{nowhere, bytesOf, payloadElements}
 use Rattle.element.specs.declared.Part.{Part}
+use Rattle.handing.specs.Handing.{fragmentLimit}
+use Rattle.handing.specs.declared.Fragment.{Fragment}
+use Rattle.handing.specs.declared.Handed.{Handed}
 
 -- ---- bytes across store and payload
 
@@ -15,9 +19,22 @@ use Rattle.element.specs.declared.Part.{Part}
 abbrev pub across : List ℕ → ℕ → List ℕ → ℕ → ℕ → List ℕ
 across store kept payload start size = take kept store ++ take size (drop start payload)
 
--- how many bytes go out
-abbrev pub counted : Answer (List ℕ) → Answer ℕ
-counted (given bytes) = given (length bytes)
+-- a fragment's bytes are there, some of them in the payload, and a size field can say how many they are
+pub record There (store payload : List ℕ) (f : Fragment) : Type 0 where
+  pub stored : f .kept ≤ length store
+  pub lies : f .start + f .size ≤ length payload
+  pub some : 1 ≤ f .size
+  pub small : f .kept + f .size < 4294967296
+
+-- how many bytes go out; and for two together
+abbrev pub handedOf : List ℕ → Handed
+handedOf bytes = record { bytes = length bytes }
+
+abbrev pub both : Handed → Handed → Handed
+both a b = record { bytes = a .bytes + b .bytes }
+
+abbrev pub counted : Answer (List ℕ) → Answer Handed
+counted (given bytes) = given (handedOf bytes)
 counted (refused n at) = refused n at
 
 -- they are given, and from `at` on there is room for them
@@ -56,3 +73,13 @@ led bytes (e ∷ es) = (bytes ++ e) ∷ es
 abbrev pub between : List ℕ → ℕ → List ℕ → ℕ → ℕ → List (List ℕ)
 between store kept payload from to =
     take (to - from) (led (take kept store) (drop from (map (bytesOf payload) (partsOf payload))))
+
+-- what is asked of elements `from` up to `to` before they are handed out: the payload has been read, `cursor` is that of the first of them,
+-- and `joined` bytes of the store go in front of it
+pub record Finishing (payload : List ℕ) (cursor from to : ℕ) (store : List ℕ) (joined : ℕ) : Type 0 where
+  pub whole : payloadElements payload ≡ given (partsOf payload)
+  pub cursor-is : cursor ≡ cursorOf (partsOf payload) from
+  pub from-in : from ≤ length (partsOf payload)
+  pub to-in : to ≤ length (partsOf payload)
+  pub stored : joined ≤ length store
+  pub small : joined ≤ fragmentLimit

@@ -4,13 +4,13 @@ use mathlib.Core.List.{List}
 use Rattle.base.specs.Refusals.{numberOf}
 use Rattle.base.specs.Answers.{Answer, given, refused}
 use Rattle.handing.specs.Inside.{across}
+use Rattle.handing.specs.declared.Handed.{Handed}
 use Rattle.handing.specs.declared.HandedOut.{HandedOut}
 use Rattle.handing.specs.declared.HandedOut.the-variants as handedOut
 use Rattle.handing.specs.declared.Fragment.{Fragment}
 
--- how many bytes go out
-abbrev pub paperHanded : HandedOut → Answer ℕ
-paperHanded (handedOut.Bytes n) = given n
+abbrev pub paperHanded : HandedOut → Answer Handed
+paperHanded (handedOut.Bytes h) = given h
 paperHanded (handedOut.Refused r) = refused (numberOf r) 0
 
 -- the bytes of a fragment

@@ -6,21 +6,19 @@ use obu::ObuRead;
 ghost use mathlib.Core.Path.{_≡_};
 ghost use Prim.Native.Nat.{_+_, _-_, _≤_, _<_};
 ghost use mathlib.Core.Bool.{true, cond};
-ghost use mathlib.Core.List.{_∷_};
 ghost use lib.ListN.{length, take, drop};
-ghost use Rattle.base.specs.Answers.{given};
 ghost use Rattle.base.specs.Lists.{replaced};
-ghost use Rattle.element.specs.Elements.{payloadElements};
-ghost use Rattle.obu.specs.Header.{headerSize, marked};
 ghost use Rattle.obu.specs.Front.{startOf, spanOf};
-ghost use Rattle.obu.specs.Wire.{extensionBytes, wholeOf, framed, wire};
+ghost use Rattle.obu.specs.Wire.{wholeOf, framed, wire};
 ghost use Rattle.obu.specs.Paper.{paperHead, paperWhole};
-ghost use Rattle.handing.specs.Handing.{fragmentLimit, wires};
-ghost use Rattle.handing.specs.Inside.{counted, RoomAt, putAt, putFirst, partsOf, cursorOf, between};
+ghost use Rattle.handing.specs.Handing.{wires};
+ghost use Rattle.handing.specs.Inside.{There, both, counted, RoomAt, putAt, putFirst, between, Finishing};
 ghost use Rattle.handing.specs.Paper.{paperHanded, fragmentOf};
 
-// The bytes that decide an OBU's front.
+// The bytes that decide an OBU's front, and the most bytes of an open fragment.
 const HEAD_BYTES: usize = 10;
+
+pub const FRAGMENT_LIMIT: usize = 1048576;
 
 // Bytes across store and payload: the first `kept` of the store, then `size` of the payload from `start` on.
 pub struct Fragment {
@@ -29,9 +27,16 @@ pub struct Fragment {
     pub size: usize,
 }
 
-// How many bytes go out for finished OBUs, or the refusal of one of them.
+// What goes out for finished OBUs: how many bytes.
+pub struct Handed {
+    pub bytes: usize,
+}
+
+const NOTHING: Handed = Handed { bytes: 0 };
+
+// That, or the refusal of one of them.
 pub enum HandedOut {
-    Bytes(usize),
+    Bytes(Handed),
     Refused(Refusal),
 }
 
@@ -46,8 +51,7 @@ pub fn copy(to: &mut [u8], at: usize, from: &[u8], start: usize, size: usize)
 
 // Copies a fragment, from byte `skip` of it on.
 fn copy_across(to: &mut [u8], at: usize, store: &[u8], payload: &[u8], f: Fragment, skip: usize)
-    requires { ⌜ (f .kept ≤ length (now store)) × (f .start + f .size ≤ length (now payload)) × (skip ≤ f .kept + f .size)
-        × (at + (f .kept + f .size - skip) ≤ length (now to)) ⌝ }
+    requires { ⌜ There (now store) (now payload) f × (skip ≤ f .kept + f .size) × (at + (f .kept + f .size - skip) ≤ length (now to)) ⌝ }
     ensures { λ _. ⌜ now (to .exit) ≡ replaced (now (to .entry)) at (drop skip (fragmentOf (now (store .entry)) (now (payload .entry)) f)) ⌝ }
 {
     let kept = f.kept;
@@ -65,7 +69,7 @@ fn copy_across(to: &mut [u8], at: usize, store: &[u8], payload: &[u8], f: Fragme
 
 // The OBU of exactly a fragment's bytes, judged by the first of them, which are put together in an array.
 fn judge_across(store: &[u8], payload: &[u8], f: Fragment) -> ObuRead
-    requires { ⌜ (f .kept ≤ length (now store)) × (f .start + f .size ≤ length (now payload)) × (1 ≤ f .size) ⌝ }
+    requires { ⌜ There (now store) (now payload) f ⌝ }
     ensures { λ r. ⌜ paperWhole r ≡ wholeOf (fragmentOf (now (store .entry)) (now (payload .entry)) f) ⌝ }
 {
     let kept = f.kept;
@@ -82,7 +86,7 @@ fn judge_across(store: &[u8], payload: &[u8], f: Fragment) -> ObuRead
 
 // The OBU of exactly a fragment's bytes: those of the payload alone are judged where they stand.
 fn judge(store: &[u8], payload: &[u8], f: Fragment) -> ObuRead
-    requires { ⌜ (f .kept ≤ length (now store)) × (f .start + f .size ≤ length (now payload)) × (1 ≤ f .size) ⌝ }
+    requires { ⌜ There (now store) (now payload) f ⌝ }
     ensures { λ r. ⌜ paperWhole r ≡ wholeOf (fragmentOf (now (store .entry)) (now (payload .entry)) f) ⌝ }
 {
     if f.kept == 0 {
@@ -91,20 +95,6 @@ fn judge(store: &[u8], payload: &[u8], f: Fragment) -> ObuRead
         return obu::whole_obu(&payload[start..end], f.size);
     }
     judge_across(store, payload, f)
-}
-
-// Writes an OBU's header byte with bit 1 set and its extension byte, and returns the cursor after them.
-fn put_header(out: &mut [u8], at: usize, header: u8, extension: u8) -> usize
-    requires { ⌜ at + headerSize header ≤ length (now out) ⌝ }
-    ensures { λ r. ⌜ (r ≡ at + headerSize header)
-        × (now (out .exit) ≡ replaced (now (out .entry)) at (marked header ∷ extensionBytes header extension)) ⌝ }
-{
-    out[at] = obu::with_size_bit(header);
-    if obu::obu_has_extension(header) {
-        out[at + 1] = extension;
-        return at + 2;
-    }
-    at + 1
 }
 
 // Writes a fragment that is an OBU as it goes out, where told to: header bytes, shortest size field, payload.
@@ -117,8 +107,7 @@ fn put_obu(
     f: Fragment,
     write: bool,
 )
-    requires { ⌜ (f .kept ≤ length (now store)) × (f .start + f .size ≤ length (now payload)) × (f .kept + f .size < 4294967296)
-        × (spanOf (paperHead head) ≡ f .kept + f .size) ⌝ }
+    requires { ⌜ There (now store) (now payload) f × (spanOf (paperHead head) ≡ f .kept + f .size) ⌝ }
     requires { ⌜ (write ≡ true
         → at + length (framed (head .header) (head .extension) (drop (startOf (paperHead head)) (fragmentOf (now store) (now payload) f))) ≤ length (now out)) ⌝ }
     ensures { λ _. ⌜ now (out .exit) ≡ cond write
@@ -127,7 +116,7 @@ fn put_obu(
         (now (out .entry)) ⌝ }
 {
     if write {
-        let field = put_header(out, at, head.header, head.extension);
+        let field = obu::put_header(out, at, head.header, head.extension);
         let body = leb128::put_leb128(out, field, head.payload as u32);
         let skip = obu::header_size(head.header) + head.field;
         copy_across(out, body, store, payload, f, skip);
@@ -143,7 +132,7 @@ fn finish_obu(
     at: usize,
     write: bool,
 ) -> HandedOut
-    requires { ⌜ (f .kept ≤ length (now store)) × (f .start + f .size ≤ length (now payload)) × (1 ≤ f .size) × (f .kept + f .size < 4294967296) ⌝ }
+    requires { ⌜ There (now store) (now payload) f ⌝ }
     requires { ⌜ (write ≡ true → RoomAt (length (now out)) at (wire (fragmentOf (now store) (now payload) f))) ⌝ }
     ensures { λ r. ⌜ (paperHanded r ≡ counted (wire (fragmentOf (now (store .entry)) (now (payload .entry)) f)))
         × (now (out .exit) ≡ cond write (putAt (now (out .entry)) at (wire (fragmentOf (now (store .entry)) (now (payload .entry)) f))) (now (out .entry))) ⌝ }
@@ -152,12 +141,23 @@ fn finish_obu(
         ObuRead::Refused(refusal) => HandedOut::Refused(refusal),
         ObuRead::Found(head) => {
             if obu::should_ignore_obu_type(obu::obu_type(head.header)) {
-                return HandedOut::Bytes(0);
+                return HandedOut::Bytes(NOTHING);
             }
             put_obu(out, at, head, store, payload, f, write);
             let field = leb128::leb128_size(head.payload as u32);
-            HandedOut::Bytes(obu::header_size(head.header) + field + head.payload)
+            let bytes = obu::header_size(head.header) + field + head.payload;
+            HandedOut::Bytes(Handed { bytes: bytes })
         }
+    }
+}
+
+// What goes out for both.
+fn together(a: Handed, b: Handed) -> Handed
+    requires { ⌜ a .bytes + b .bytes < 18446744073709551616 ⌝ }
+    ensures { λ r. ⌜ r ≡ both a b ⌝ }
+{
+    Handed {
+        bytes: a.bytes + b.bytes,
     }
 }
 
@@ -172,9 +172,7 @@ fn hand_out(
     out: &mut [u8],
     write: bool,
 ) -> HandedOut
-    requires { ⌜ (payloadElements (now payload) ≡ given (partsOf (now payload))) × (cursor ≡ cursorOf (partsOf (now payload)) from)
-        × (from ≤ length (partsOf (now payload))) × (to ≤ length (partsOf (now payload)))
-        × (joined ≤ length (now store)) × (joined ≤ fragmentLimit) ⌝ }
+    requires { ⌜ Finishing (now payload) cursor from to (now store) joined ⌝ }
     requires { ⌜ (write ≡ true → RoomAt (length (now out)) 0 (wires (between (now store) joined (now payload) from to))) ⌝ }
     ensures { λ r. ⌜ (paperHanded r ≡ counted (wires (between (now (store .entry)) joined (now (payload .entry)) from to)))
         × (now (out .exit) ≡ cond write (putFirst (now (out .entry)) (wires (between (now (store .entry)) joined (now (payload .entry)) from to))) (now (out .entry))) ⌝ }
@@ -183,7 +181,7 @@ fn hand_out(
     let mut at = cursor;
     let mut i = from;
     let mut kept = joined;
-    let mut bytes: usize = 0;
+    let mut sum = NOTHING;
     while i < to {
         match element::read_element(payload, at, element::has_field(w, i)) {
             // never, since the elements were read before
@@ -196,12 +194,12 @@ fn hand_out(
                     start: part.start,
                     size: part.length,
                 };
-                match finish_obu(store, payload, f, out, bytes, write) {
+                match finish_obu(store, payload, f, out, sum.bytes, write) {
                     HandedOut::Refused(refusal) => {
                         return HandedOut::Refused(refusal);
                     }
-                    HandedOut::Bytes(n) => {
-                        bytes = bytes + n;
+                    HandedOut::Bytes(one) => {
+                        sum = together(sum, one);
                         kept = 0;
                         i = i + 1;
                         at = part.next;
@@ -210,7 +208,7 @@ fn hand_out(
             }
         }
     }
-    HandedOut::Bytes(bytes)
+    HandedOut::Bytes(sum)
 }
 
 // How many bytes go out for them. Most packets of a long OBU finish none.
@@ -225,14 +223,12 @@ pub fn count_out(
     joined: usize,
     out: &mut [u8],
 ) -> HandedOut
-    requires { ⌜ (payloadElements (now payload) ≡ given (partsOf (now payload))) × (cursor ≡ cursorOf (partsOf (now payload)) from)
-        × (from ≤ length (partsOf (now payload))) × (to ≤ length (partsOf (now payload)))
-        × (joined ≤ length (now store)) × (joined ≤ fragmentLimit) ⌝ }
+    requires { ⌜ Finishing (now payload) cursor from to (now store) joined ⌝ }
     ensures { λ r. ⌜ (paperHanded r ≡ counted (wires (between (now (store .entry)) joined (now (payload .entry)) from to)))
         × (now (out .exit) ≡ now (out .entry)) ⌝ }
 {
     if to <= from {
-        return HandedOut::Bytes(0);
+        return HandedOut::Bytes(NOTHING);
     }
     hand_out(payload, cursor, from, to, store, joined, out, false)
 }
@@ -248,9 +244,7 @@ pub fn write_out(
     joined: usize,
     out: &mut [u8],
 )
-    requires { ⌜ (payloadElements (now payload) ≡ given (partsOf (now payload))) × (cursor ≡ cursorOf (partsOf (now payload)) from)
-        × (from ≤ length (partsOf (now payload))) × (to ≤ length (partsOf (now payload)))
-        × (joined ≤ length (now store)) × (joined ≤ fragmentLimit) ⌝ }
+    requires { ⌜ Finishing (now payload) cursor from to (now store) joined ⌝ }
     requires { ⌜ RoomAt (length (now out)) 0 (wires (between (now store) joined (now payload) from to)) ⌝ }
     ensures { λ _. ⌜ now (out .exit) ≡ putFirst (now (out .entry)) (wires (between (now (store .entry)) joined (now (payload .entry)) from to)) ⌝ }
 {

@@ -7,7 +7,7 @@ use mathlib.Core.Bool.{true, false}
 use Rattle.leb128.specs.Field.{fieldIn, form}
 use Rattle.obu.specs.Front.{frontOf, headed}
 use Rattle.obu.specs.Wire.{wholeOf}
-use Rattle.lawful.specs.Train.{Piece, cut, inner, final, closed, packets, runOf, obus, obusIn, join}
+use Rattle.lawful.specs.Train.{Piece, cut, inner, final, closed, packets, packetsOfPieces, obus, obusOfPieces, join}
 use Rattle.lawful.specs.Payload.{Holds, bare, last, more, each, exact}
 use Rattle.lawful.specs.Lawful.{Lawful}
 
@@ -39,7 +39,7 @@ payloads =
 
 -- its packets, the second with Z, the third with Y, the fourth with both
 run :
-    runOf example
+    packetsOfPieces example
     ≡ record { z = false; y = true; elements = (0x08 ∷ 0x11 ∷ []) ∷ [] }
     ∷ record { z = true; y = false; elements = (0x22 ∷ 0x33 ∷ []) ∷ [] }
     ∷ record { z = false; y = true; elements = (0x30 ∷ 0xa1 ∷ []) ∷ [] }
@@ -53,7 +53,7 @@ run = refl
 
 -- its OBUs
 whole-obus :
-    map join (obusIn example)
+    map join (obusOfPieces example)
     ≡ (0x08 ∷ 0x11 ∷ 0x22 ∷ 0x33 ∷ [])
     ∷ (0x30 ∷ 0xa1 ∷ 0xa2 ∷ 0xa3 ∷ 0xa4 ∷ 0xa5 ∷ [])
     ∷ (0x30 ∷ []) ∷ (0x30 ∷ []) ∷ (0x30 ∷ []) ∷ (0x30 ∷ [])

@@ -12,7 +12,7 @@ use mathlib.Core.Bool.{Bool, true, false, not, _&&_, and-true, and-assoc, false�
 use lib.ListN.{length}
 use Rattle.base.specs.Lists.{All}
 use Rattle.base.proofs.Lists.{length-snoc, all-append, all-snoc, map-append}
-use Rattle.lawful.specs.Train.{Piece, cut, inner, final, bytesIn, NonEmpty, Full, closed, Packet, packets, runOf, Portion, portion, obus, obusIn, join, whole}
+use Rattle.lawful.specs.Train.{Piece, cut, inner, final, bytesIn, NonEmpty, Full, closed, Packet, packets, packetsOfPieces, Portion, portion, obus, obusOfPieces, join, whole}
 
 -- ---- one more portion of an OBU
 
@@ -36,7 +36,7 @@ packets-full (cut b ∷ t) z es f h = (all-snoc NonEmpty es b h (f .0), packets-
 packets-full (inner b ∷ t) z es f h = packets-full t z (es ++ (b ∷ [])) (f .1) (all-snoc NonEmpty es b h (f .0))
 packets-full (final b ∷ t) z es f h = (all-snoc NonEmpty es b h (f .0), packets-full t false [] (f .1) tt)
 
-pub run-full : (t : List Piece) → Full t → All (λ p. All NonEmpty (p .elements)) (runOf t)
+pub run-full : (t : List Piece) → Full t → All (λ p. All NonEmpty (p .elements)) (packetsOfPieces t)
 run-full t f = packets-full t false [] f tt
 
 -- ---- trains one after the other
@@ -53,7 +53,7 @@ closed-append (inner b ∷ t) u c e = closed-append t u false e
 closed-append (final b ∷ t) u c e = closed-append t u true e
 
 packets-append : (t u : List Piece) (c z : Bool) (es : List (List ℕ)) → closed c t ≡ true → (c ≡ true → es ≡ []) → (c ≡ true → z ≡ false)
-    → packets z es (t ++ u) ≡ packets z es t ++ runOf u
+    → packets z es (t ++ u) ≡ packets z es t ++ packetsOfPieces u
 unfolding packets closed
 packets-append [] u c z es e h i = rw (h e, i e)
 packets-append (cut b ∷ t) u c z es e h i =
@@ -62,7 +62,7 @@ packets-append (inner b ∷ t) u c z es e h i = packets-append t u false z (es +
 packets-append (final b ∷ t) u c z es e h i =
     ap {B = List Packet} (λ l. record { z = z; y = false; elements = es ++ (b ∷ []) } ∷ l) (packets-append t u true false [] e (λ q. refl) (λ q. refl))
 
-pub run-append : (t u : List Piece) → closed true t ≡ true → runOf (t ++ u) ≡ runOf t ++ runOf u
+pub run-append : (t u : List Piece) → closed true t ≡ true → packetsOfPieces (t ++ u) ≡ packetsOfPieces t ++ packetsOfPieces u
 run-append t u e = packets-append t u true false [] e (λ q. refl) (λ q. refl)
 
 obus-next : (t u : List Piece) (c z : Bool) (es : List (List ℕ)) (k : ℕ) (ps : List Portion) → closed c t ≡ true → (c ≡ true → es ≡ []) → (c ≡ true → ps ≡ [])
@@ -77,7 +77,7 @@ obus-next (final b ∷ t) u c z es k ps e h i =
     (ap {B = List (List Portion)} (λ l. (ps ++ (portion k b ∷ [])) ∷ l) (obus-next t u true false [] (suc k) [] e (λ q. refl) (λ q. refl)))
 
 -- the OBUs of the second train, their packets further on by those of the first
-pub obus-append : (k : ℕ) (t u : List Piece) → closed true t ≡ true → obus k [] (t ++ u) ≡ obus k [] t ++ obus (k + length (runOf t)) [] u
+pub obus-append : (k : ℕ) (t u : List Piece) → closed true t ≡ true → obus k [] (t ++ u) ≡ obus k [] t ++ obus (k + length (packetsOfPieces t)) [] u
 obus-append k t u e = obus-next t u true false [] k [] e (λ q. refl) (λ q. refl)
 
 -- their bytes do not depend on the packets before
@@ -88,8 +88,8 @@ join-shift (cut b ∷ t) k n ps qs e = join-shift t (suc k) (suc n) (ps ++ (port
 join-shift (inner b ∷ t) k n ps qs e = rw (join-portion ps k b, join-portion qs n b, e, join-shift t k n [] [] refl)
 join-shift (final b ∷ t) k n ps qs e = rw (join-portion ps k b, join-portion qs n b, e, join-shift t (suc k) (suc n) [] [] refl)
 
-pub join-append : (t u : List Piece) → closed true t ≡ true → map join (obusIn (t ++ u)) ≡ map join (obusIn t) ++ map join (obusIn u)
-join-append t u e = rw (obus-append 0 t u e, join-shift u 0 (0 + length (runOf t)) [] [] refl) (map-append join (obusIn t) _)
+pub join-append : (t u : List Piece) → closed true t ≡ true → map join (obusOfPieces (t ++ u)) ≡ map join (obusOfPieces t) ++ map join (obusOfPieces u)
+join-append t u e = rw (obus-append 0 t u e, join-shift u 0 (0 + length (packetsOfPieces t)) [] [] refl) (map-append join (obusOfPieces t) _)
 
 -- ---- runs of packets that are those of a train
 
@@ -106,7 +106,7 @@ packets-chained (cut b ∷ t) z es = (refl, rw length-snoc (omega arith), packet
 packets-chained (inner b ∷ t) z es = packets-chained t z (es ++ (b ∷ []))
 packets-chained (final b ∷ t) z es = (refl, rw length-snoc (omega arith), packets-chained t false [])
 
-pub run-chained : (t : List Piece) → Chained false (runOf t)
+pub run-chained : (t : List Piece) → Chained false (packetsOfPieces t)
 run-chained t = packets-chained t false []
 
 -- the pieces of a packet, and of a run

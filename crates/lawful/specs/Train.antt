@@ -48,8 +48,8 @@ packets z es (inner b ∷ t) = packets z (es ++ (b ∷ [])) t
 packets z es (final b ∷ t) = record { z = z; y = false; elements = es ++ (b ∷ []) } ∷ packets false [] t
 
 -- the run of packets
-abbrev pub runOf : List Piece → List Packet
-runOf t = packets false [] t
+abbrev pub packetsOfPieces : List Piece → List Packet
+packetsOfPieces t = packets false [] t
 
 -- ---- by OBU
 
@@ -69,8 +69,8 @@ obus k ps (inner b ∷ t) = (ps ++ (portion k b ∷ [])) ∷ obus k [] t
 obus k ps (final b ∷ t) = (ps ++ (portion k b ∷ [])) ∷ obus (suc k) [] t
 
 -- the OBUs, each as its portions
-abbrev pub obusIn : List Piece → List (List Portion)
-obusIn t = obus 0 [] t
+abbrev pub obusOfPieces : List Piece → List (List Portion)
+obusOfPieces t = obus 0 [] t
 
 -- the bytes of an OBU
 unfoldable pub join : List Portion → List ℕ

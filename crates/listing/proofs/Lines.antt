@@ -1,23 +1,23 @@
 -- The lines of a unit's plan, read from the lists that the plan call leaves. Assumes nothing.
-use mathlib.Core.Path.{_≡_, refl, sym, ap, ap₂, _∙_}
+use mathlib.Core.Path.{_≡_, refl, sym, ap, _∙_}
 use Prim.Native.Nat.{ℕ, suc, _+_, _*_, _≤_, _<_}
 use native.Mathlib.Omega.{arith}
 use mathlib.Core.List.{List, [], _∷_}
 use lib.ListN.{length, getD, take, length-take, length-replicate}
 use Rattle.base.specs.Answers.{Answer, given, refused}
-use Rattle.obu.specs.Unit.{unitLimit, obuNumbers, obusOf}
+use Rattle.obu.specs.Unit.{unitLimit, obusOf}
+use Rattle.obu.specs.Records.{obuNumbers, obusIn}
 use Rattle.obu.specs.declared.Obu.{Obu}
-use Rattle.obu.proofs.Scans as scans
-use Rattle.packetizer.specs.Plan.{planNumbers}
-use Rattle.packetizer.specs.Call.{unitPlan, planAnswer, obusAfter, planAfter}
+use Rattle.obu.proofs.Records.{flat-length, obus-part, obus-flat}
+use Rattle.packetizer.specs.Call.{unitPlan, toPlan, planAnswer, planUnit}
+use Rattle.packetizer.specs.Records.{planNumbers, noPacket, packetsIn}
 use Rattle.packetizer.specs.declared.PacketMetadata.{PacketMetadata}
 use Rattle.packetizer.specs.declared.Planned.{Planned}
-use Rattle.packetizer.proofs.Stores as stores
-use Rattle.aggregation.specs.Header.{noPacket, byteOf, headerOf}
-use Rattle.aggregation.specs.Flat.{obusIn, packetsIn}
-use Rattle.payloader.proofs.Units.{obus-flat, packets-flat}
+use Rattle.packetizer.proofs.Records.{plan-length, plan-part, packets-flat}
+use Rattle.aggregation.specs.Header.{byteOf, headerOf}
+use Rattle.aggregation.proofs.Headers.{byte-back}
 use Rattle.payloader.proofs.Packets.{packet-header}
-use Rattle.payloader.proofs.Calls.{accepted, obus-part, plan-part}
+use Rattle.payloader.proofs.Calls.{accepted}
 use Rattle.turns.specs.Orders.{asks}
 use Rattle.listing.specs.Input.{unitStore, listNumbers}
 use Rattle.listing.specs.Row.{rowOf}
@@ -29,17 +29,10 @@ use Rattle.listing.specs.declared.Place.{Place}
 
 module _ {p : Place} {unit obus plan : List ℕ} (f : Filled p unit obus plan) where
   pub filled-obus : p .obus * obuNumbers ≤ length obus
-  filled-obus = omega (arith, ap length (f .obus-is), length-take (p .obus * obuNumbers) obus, scans.flat-length (obusOf (unitIn p unit)), f .obus-are)
+  filled-obus = omega (arith, ap length (f .obus-is), length-take (p .obus * obuNumbers) obus, flat-length (obusOf (unitIn p unit)), f .obus-are)
 
   pub filled-plan : p .packets * planNumbers ≤ length plan
-  filled-plan = omega (arith, ap length (f .plan-is), length-take (p .packets * planNumbers) plan, stores.flat-length (unitPlan (p .mtu) (unitIn p unit)), f .packets-are)
-
-  -- the records in the filled parts
-  obus-in : obusIn (take (p .obus * obuNumbers) obus) ≡ obusOf (unitIn p unit)
-  obus-in = ap obusIn (f .obus-is) ∙ obus-flat (obusOf (unitIn p unit))
-
-  packets-in : packetsIn (take (p .packets * planNumbers) plan) ≡ unitPlan (p .mtu) (unitIn p unit)
-  packets-in = ap packetsIn (f .plan-is) ∙ packets-flat (unitPlan (p .mtu) (unitIn p unit))
+  filled-plan = omega (arith, ap length (f .plan-is), length-take (p .packets * planNumbers) plan, plan-length (unitPlan (p .mtu) (unitIn p unit)), f .packets-are)
 
   module _ {k : ℕ} (h : k < p .packets) where
     -- a packet has its header
@@ -47,16 +40,19 @@ module _ {p : Place} {unit obus plan : List ℕ} (f : Filled p unit obus plan) w
         headerOf (obusIn (take (p .obus * obuNumbers) obus)) (packetsIn (take (p .packets * planNumbers) plan)) k
         ≡ given (byteOf (obusIn (take (p .obus * obuNumbers) obus)) (getD (packetsIn (take (p .packets * planNumbers) plan)) k noPacket) k)
     filled-headed =
-        let small : length (unitIn p unit) ≤ unitLimit = omega (arith, length-take (p .length) unit, f .within) in
-        let there : k < length (unitPlan (p .mtu) (unitIn p unit)) = omega (arith, f .packets-are) in
-        rw (f .obus-is, f .plan-is) (packet-header (p .mtu) (unitIn p unit) k small there
-        ∙ ap₂ (λ (os : List Obu) (ps : List PacketMetadata). given (byteOf os (getD ps k noPacket) k)) (sym (obus-flat (obusOf (unitIn p unit)))) (sym (packets-flat (unitPlan (p .mtu) (unitIn p unit)))))
+        let u = unitIn p unit in
+        let small : length u ≤ unitLimit = omega (arith, length-take (p .length) unit, f .within) in
+        let there : k < length (unitPlan (p .mtu) u) = omega (arith, f .packets-are) in
+        rw (f .obus-is, f .plan-is, packet-header (p .mtu) u k small there, obus-flat (obusOf u), packets-flat (unitPlan (p .mtu) u))
+        (ap given (sym (byte-back (obusOf u) (getD (unitPlan (p .mtu) u) k noPacket) k)))
 
     -- and its line is that of the unit's plan
     pub filled-row :
         rowOf (obusIn (take (p .obus * obuNumbers) obus)) (packetsIn (take (p .packets * planNumbers) plan)) k
         ≡ rowOf (obusOf (unitIn p unit)) (unitPlan (p .mtu) (unitIn p unit)) k
-    filled-row = ap₂ (λ (os : List Obu) (ps : List PacketMetadata). rowOf os ps k) obus-in packets-in
+    filled-row =
+        let u = unitIn p unit in
+        rw (f .obus-is, f .plan-is, obus-flat (obusOf u), packets-flat (unitPlan (p .mtu) u), byte-back (obusOf u) (getD (unitPlan (p .mtu) u) k noPacket) k)
 
 -- ---- after the plan call
 
@@ -67,7 +63,7 @@ rows-count os k (p ∷ ps) = ap suc (rows-count os (k + 1) ps)
 
 -- its answer goes by how much the lists hold
 answer-same : (mtu : ℕ) (unit obus obus′ plan plan′ : List ℕ) → length obus ≡ length obus′ → length plan ≡ length plan′
-    → planAnswer mtu unit obus plan ≡ planAnswer mtu unit obus′ plan′
+    → planAnswer (toPlan mtu unit obus plan) ≡ planAnswer (toPlan mtu unit obus′ plan′)
 unfolding planAnswer
 answer-same mtu unit obus obus′ plan plan′ o l = rw (o, l)
 
@@ -76,7 +72,7 @@ told-none p [] unit h = refl
 told-none p (b ∷ l) unit h = absurd (omega arith)
 
 module _ (p : Place) (unit obus plan : List ℕ) (o : length obus ≡ listNumbers) (l : length plan ≡ listNumbers) where
-  listing-is : {a : Answer Planned} → a ≡ planAnswer (p .mtu) (unitIn p unit) obus plan → unitListing (p .mtu) (unitIn p unit) ≡ listedBy (p .mtu) (unitIn p unit) a
+  listing-is : {a : Answer Planned} → a ≡ planAnswer (toPlan (p .mtu) (unitIn p unit) obus plan) → unitListing (p .mtu) (unitIn p unit) ≡ listedBy (p .mtu) (unitIn p unit) a
   unfolding unitListing
   listing-is e =
       ap (listedBy (p .mtu) (unitIn p unit))
@@ -84,10 +80,10 @@ module _ (p : Place) (unit obus plan : List ℕ) (o : length obus ≡ listNumber
 
   -- what is told where no byte is left over
   module _ (got : List ℕ) (none : length got ≤ 0) where
-    pub told-refused : {n at : ℕ} → refused n at ≡ planAnswer (p .mtu) (unitIn p unit) obus plan → furtherTold p got unit ≡ prints p (refusedText n at)
+    pub told-refused : {n at : ℕ} → refused n at ≡ planAnswer (toPlan (p .mtu) (unitIn p unit) obus plan) → furtherTold p got unit ≡ prints p (refusedText n at)
     told-refused e = told-none p got unit none ∙ ap (listingTold p) (listing-is e)
 
-    pub told-counts : {q : Planned} → given q ≡ planAnswer (p .mtu) (unitIn p unit) obus plan
+    pub told-counts : {q : Planned} → given q ≡ planAnswer (toPlan (p .mtu) (unitIn p unit) obus plan)
         → furtherTold p got unit ≡ asks (counted p (q .obus) (q .packets)) (countsText (q .obus) (q .packets)) 0
     told-counts {q} e =
         told-none p got unit none ∙ ap (listingTold p) (listing-is e)
@@ -100,8 +96,8 @@ told-more p [] unit h = absurd (omega arith)
 told-more p (b ∷ l) unit h = refl
 
 -- the lists hold the plan
-pub planned-filled : (p : Place) (unit obus plan : List ℕ) (q : Planned) → given q ≡ planAnswer (p .mtu) (unitIn p unit) obus plan → p .length ≤ unitStore
-    → Filled (counted p (q .obus) (q .packets)) unit (obusAfter (p .mtu) (unitIn p unit) obus) (planAfter (p .mtu) (unitIn p unit) obus plan)
+pub planned-filled : (p : Place) (unit obus plan : List ℕ) (q : Planned) → given q ≡ planAnswer (toPlan (p .mtu) (unitIn p unit) obus plan) → p .length ≤ unitStore
+    → Filled (counted p (q .obus) (q .packets)) unit (planUnit (toPlan (p .mtu) (unitIn p unit) obus plan) .obus) (planUnit (toPlan (p .mtu) (unitIn p unit) obus plan) .plan)
 planned-filled p unit obus plan q e h =
     let known = accepted _ _ _ _ q e in
     record {

@@ -6,9 +6,10 @@ use mathlib.Core.List.{List, [], _∷_, map, flatMap}
 use Rattle.base.specs.Lists.{keep}
 use Rattle.base.specs.Words.{ascii}
 use Rattle.leb128.specs.Field.{fieldIn, encodeIn}
-use Rattle.train.specs.Bytes.{valueAfter}
+use Rattle.base.specs.BigEndian.{valueAfter}
+use Rattle.base.specs.Streams.{streamFrom}
 use Rattle.obu.specs.Front.{headed, frontOf}
-use Rattle.obu.specs.Unit.{scanFrom, listed}
+use Rattle.obu.specs.Unit.{listed}
 use Rattle.packetizer.specs.Plan.{chargeOf, isFull, needOf, fragmentOf, spread, insert, place, planFrom, planOf}
 use Rattle.packetizer.specs.Call.{planAnswer}
 use Rattle.aggregation.specs.Header.{nOf, byteOf}
@@ -39,5 +40,5 @@ cases =
     ∷ []
 
 prints-all : map (λ (c : Case). planlistText (c .input)) cases ≡ map (λ (c : Case). ascii (c .prints)) cases
-unfolding cases case inputOf headOf valueAfter unitListing rowsFrom planAnswer listed scanFrom frontOf headed fieldIn keep planOf planFrom place isFull insert chargeOf needOf fragmentOf spread byteOf nOf encodeIn twoNumbers rowText decimalIn flatMap
+unfolding cases case inputOf headOf valueAfter unitListing rowsFrom planAnswer listed streamFrom frontOf headed fieldIn keep planOf planFrom place isFull insert chargeOf needOf fragmentOf spread byteOf nOf encodeIn twoNumbers rowText decimalIn flatMap
 prints-all = refl

@@ -14,14 +14,14 @@ use Rattle.base.specs.Lists.{front}
 use Rattle.base.proofs.Lists.{short-front}
 use Rattle.base.proofs.Tests.{split-on}
 use Rattle.obu.specs.Unit.{obusOf}
-use Rattle.packetizer.specs.Call.{unitPlan, planAnswer}
+use Rattle.packetizer.specs.Call.{unitPlan, toPlan, planAnswer}
+use Rattle.packetizer.specs.Records.{noPacket}
 use Rattle.packetizer.specs.declared.Planned.{Planned}
-use Rattle.aggregation.specs.Header.{noPacket}
 use Rattle.payloader.proofs.Calls.{accepted}
 use Rattle.turns.specs.Orders.{Told, ends, asks}
 use Rattle.turns.specs.Loop.{Output, nothing, also, loop}
 use Rattle.listing.specs.Input as input
-use Rattle.listing.specs.Input.{headBytes, listRecords, listNumbers, Head, states, headOf, badInput, good, inputBy, inputOf}
+use Rattle.listing.specs.Input.{headWidth, listRecords, listNumbers, Head, states, headOf, badInput, good, inputBy, inputOf}
 use Rattle.listing.specs.Row.{rowOf, rowText}
 use Rattle.listing.specs.Listing.{Listing, bad, rowsFrom, rowsOf, listedBy, unitListing, listingBy, badText, listingText, planlistText}
 use Rattle.listing.specs.Steps.{awaits, unitIn, prints, headTold, counted, listingTold}
@@ -86,7 +86,7 @@ module _ (p : Place) (unit l : List ℕ) (count : p .packets ≡ length (unitPla
 -- ---- by what the plan call answers
 
 module _ (p : Place) (unit l : List ℕ) (n : ℕ) (enough : listRecords + 1 ≤ n) where
-  run-answer : (a : Answer Planned) → a ≡ planAnswer (p .mtu) (unitIn p unit) (replicate listNumbers 0) (replicate listNumbers 0)
+  run-answer : (a : Answer Planned) → a ≡ planAnswer (toPlan (p .mtu) (unitIn p unit) (replicate listNumbers 0) (replicate listNumbers 0))
       → run n (listingTold p (listedBy (p .mtu) (unitIn p unit) a)) unit l ≡ just (listingText (listedBy (p .mtu) (unitIn p unit) a))
   run-answer (refused k at) e = run-prints n (omega arith) p _ unit l
   run-answer (given q) e =
@@ -156,14 +156,14 @@ run-lists (suc n) unit file h = ap By (head-front file) ∙ go (headOf file)
     start = record { wait = wait.Head; mtu = 0; length = 0; obus = 0; packets = 0 }
 
     By : Head → Output
-    By x = also [] [] (run n (headTold start x) unit (drop headBytes file))
+    By x = also [] [] (run n (headTold start x) unit (drop headWidth file))
 
-    go : (x : Head) → By x ≡ just (listingText (listingBy file (inputBy (length (drop headBytes file)) x)))
+    go : (x : Head) → By x ≡ just (listingText (listingBy file (inputBy (length (drop headWidth file)) x)))
     go input.bad = ap (also [] []) (run-prints n (omega arith) start badText unit _)
     go (states s) =
-        ap (also [] []) (run-unit (record { wait = wait.Unit; mtu = s .mtu; length = s .length; obus = 0; packets = 0 }) unit (drop headBytes file) n (omega arith))
-        ∙ ap (λ (x : Listing). just (listingText x)) (by-length (eqb (length (drop headBytes file)) (s .length)))
+        ap (also [] []) (run-unit (record { wait = wait.Unit; mtu = s .mtu; length = s .length; obus = 0; packets = 0 }) unit (drop headWidth file) n (omega arith))
+        ∙ ap (λ (x : Listing). just (listingText x)) (by-length (eqb (length (drop headWidth file)) (s .length)))
       where
-        by-length : (t : Bool) → cond t (unitListing (s .mtu) (drop headBytes file)) bad ≡ listingBy file (cond t (good (s .mtu)) badInput)
+        by-length : (t : Bool) → cond t (unitListing (s .mtu) (drop headWidth file)) bad ≡ listingBy file (cond t (good (s .mtu)) badInput)
         by-length true = refl
         by-length false = refl

@@ -2,18 +2,19 @@
 use Prim.Native.Nat.{ℕ, _+_, _*_}
 use mathlib.Core.List.{List}
 use mathlib.Core.Bool.{Bool, cond, not, _||_}
-use lib.ListN.{length, getD, take, drop}
+use lib.ListN.{length, getD, drop}
 use lib.Dec.{ltb, eqb}
-use Rattle.packetizer.specs.Plan.{planNumbers}
-use Rattle.train.specs.Bytes.{valueOf}
+use Rattle.base.specs.BigEndian.{valueAt}
+use Rattle.packetizer.specs.Records.{planNumbers}
+pub use Rattle.turns.specs.Stores.{unitStore, listRecords}
 use Rattle.listing.specs.declared.Stated.{Stated}
 
--- the version byte; the bytes of the head, of its mtu and of its length; L12; L13
+-- the version byte; the bytes of the head, of its mtu and of its length
 abbrev pub version : ℕ
 version = 1
 
-abbrev pub headBytes : ℕ
-headBytes = 7
+abbrev pub headWidth : ℕ
+headWidth = 7
 
 abbrev pub mtuWidth : ℕ
 mtuWidth = 2
@@ -21,13 +22,7 @@ mtuWidth = 2
 abbrev pub lengthWidth : ℕ
 lengthWidth = 4
 
-abbrev pub unitStore : ℕ
-unitStore = 32768
-
-abbrev pub listRecords : ℕ
-listRecords = 512
-
--- the numbers of such a list: a record of either has five
+-- the numbers of a list: a record of either has five
 abbrev pub listNumbers : ℕ
 listNumbers = listRecords * planNumbers
 
@@ -37,14 +32,14 @@ pub data Head : Type 0 where
   states : Stated → Head
 
 abbrev pub mtuIn : List ℕ → ℕ
-mtuIn l = valueOf (take mtuWidth (drop 1 l))
+mtuIn l = valueAt l 1 mtuWidth
 
 abbrev pub lengthIn : List ℕ → ℕ
-lengthIn l = valueOf (take lengthWidth (drop (1 + mtuWidth) l))
+lengthIn l = valueAt l (1 + mtuWidth) lengthWidth
 
 -- cut, of another version, or with a unit over the store
 abbrev pub isBad : List ℕ → Bool
-isBad l = ltb (length l) headBytes || not (eqb (getD l 0 0) version) || ltb unitStore (lengthIn l)
+isBad l = ltb (length l) headWidth || not (eqb (getD l 0 0) version) || ltb unitStore (lengthIn l)
 
 unfoldable pub headOf : List ℕ → Head
 headOf l = cond (isBad l) bad (states (record { mtu = mtuIn l; length = lengthIn l }))
@@ -61,4 +56,4 @@ inputBy n (states s) = cond (eqb n (s .length)) (good (s .mtu)) badInput
 
 -- an input as a whole: nothing is missing, and nothing is left over
 unfoldable pub inputOf : List ℕ → Input
-inputOf l = inputBy (length (drop headBytes l)) (headOf l)
+inputOf l = inputBy (length (drop headWidth l)) (headOf l)

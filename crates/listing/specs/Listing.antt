@@ -6,11 +6,11 @@ use Rattle.base.specs.Answers.{Answer, given, refused}
 use Rattle.base.specs.Words.{ascii}
 use Rattle.obu.specs.Unit.{obusOf}
 use Rattle.obu.specs.declared.Obu.{Obu}
-use Rattle.packetizer.specs.Call.{unitPlan, planAnswer}
+use Rattle.packetizer.specs.Call.{unitPlan, toPlan, planAnswer}
 use Rattle.packetizer.specs.declared.PacketMetadata.{PacketMetadata}
 use Rattle.packetizer.specs.declared.Planned.{Planned}
-use Rattle.turns.specs.Text.{decimal}
-use Rattle.listing.specs.Input.{headBytes, listNumbers, Input, badInput, good, inputOf}
+use Rattle.turns.specs.Text.{labelled}
+use Rattle.listing.specs.Input.{headWidth, listNumbers, Input, badInput, good, inputOf}
 use Rattle.listing.specs.Row.{rowBy, rowText}
 use Rattle.listing.specs.declared.Row.{Row}
 
@@ -33,11 +33,11 @@ listedBy mtu unit (refused n at) = refusedBy n at
 
 -- of a unit, with lists of L13
 unfoldable pub unitListing : ℕ → List ℕ → Listing
-unitListing mtu unit = listedBy mtu unit (planAnswer mtu unit (replicate listNumbers 0) (replicate listNumbers 0))
+unitListing mtu unit = listedBy mtu unit (planAnswer (toPlan mtu unit (replicate listNumbers 0) (replicate listNumbers 0)))
 
 abbrev pub listingBy : List ℕ → Input → Listing
 listingBy l badInput = bad
-listingBy l (good mtu) = unitListing mtu (drop headBytes l)
+listingBy l (good mtu) = unitListing mtu (drop headWidth l)
 
 -- of a whole input
 abbrev pub planlistOf : List ℕ → Listing
@@ -47,7 +47,7 @@ planlistOf l = listingBy l (inputOf l)
 
 -- two numbers, each behind its words
 unfoldable pub twoNumbers : List ℕ → ℕ → List ℕ → ℕ → List ℕ
-twoNumbers a m b n = a ++ (decimal m ++ (b ++ (decimal n ++ ascii "\n")))
+twoNumbers a m b n = labelled a m ++ (labelled b n ++ ascii "\n")
 
 abbrev pub badText : List ℕ
 badText = ascii "bad input\n"

@@ -1,13 +1,14 @@
 -- A line of the listing (G10).
 use Prim.Native.Nat.{ℕ, _+_, _/_, _%_}
-use mathlib.Core.List.{List, [], _∷_, _++_}
+use mathlib.Core.List.{List, [], _∷_, _++_, flatMap}
 use mathlib.Core.Bool.{cond}
 use lib.ListN.{getD}
 use lib.Dec.{ltb}
 use Rattle.base.specs.Words.{ascii}
 use Rattle.obu.specs.declared.Obu.{Obu}
+use Rattle.packetizer.specs.Records.{noPacket}
 use Rattle.packetizer.specs.declared.PacketMetadata.{PacketMetadata}
-use Rattle.aggregation.specs.Header.{noPacket, byteOf}
+use Rattle.aggregation.specs.Header.{byteOf}
 use Rattle.turns.specs.Text.{decimal}
 use Rattle.listing.specs.declared.Row.{Row}
 
@@ -38,13 +39,10 @@ twoDigits b = capital (b / 16) ∷ capital (b % 16) ∷ []
 abbrev pub column : ℕ → List ℕ
 column n = decimal n ++ ascii " "
 
--- `0 0 1 0 2 2 18` and a newline
+-- `0 0 1 0 2 2 18` and a newline: these numbers, and the header byte
+abbrev pub rowNumbers : Row → List ℕ
+rowNumbers r =
+    r .packet ∷ r .«first_obu» ∷ r .elements ∷ r .«first_offset» ∷ r .«last_size» ∷ r .«packet_size» ∷ []
+
 unfoldable pub rowText : Row → List ℕ
-rowText r =
-    column (r .packet)
-    ++ (column (r .«first_obu»)
-    ++ (column (r .elements)
-    ++ (column (r .«first_offset»)
-    ++ (column (r .«last_size»)
-    ++ (column (r .«packet_size»)
-    ++ (twoDigits (r .header) ++ ascii "\n"))))))
+rowText r = flatMap column (rowNumbers r) ++ (twoDigits (r .header) ++ ascii "\n")

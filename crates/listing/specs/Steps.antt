@@ -6,9 +6,10 @@ use mathlib.Core.Bool.{cond}
 use lib.ListN.{length, take}
 use lib.Dec.{ltb}
 use Rattle.base.specs.Lists.{front}
-use Rattle.obu.specs.Unit.{obuNumbers, obusOf, flat}
-use Rattle.packetizer.specs.Plan.{planNumbers, flatPlan}
+use Rattle.obu.specs.Unit.{obusOf}
+use Rattle.obu.specs.Records.{obuNumbers, flat}
 use Rattle.packetizer.specs.Call.{unitPlan}
+use Rattle.packetizer.specs.Records.{planNumbers, flatPlan}
 use Rattle.turns.specs.Text.{lineBytes}
 use Rattle.turns.specs.Orders.{Told, ends, asks, says, Within, Turned, Arrival, bytes, readFailed, writeFailed, CameWithin}
 use Rattle.turns.specs.declared.Came.{Came}
@@ -16,7 +17,7 @@ use Rattle.turns.specs.declared.Subject.{Subject}
 use Rattle.turns.specs.declared.Subject.the-variants as subject
 use Rattle.turns.specs.declared.Word.{Word}
 use Rattle.turns.specs.declared.Word.the-variants as word
-use Rattle.listing.specs.Input.{headBytes, unitStore, listNumbers, Head, bad, states, headOf}
+use Rattle.listing.specs.Input.{headWidth, unitStore, listNumbers, Head, bad, states, headOf}
 use Rattle.listing.specs.Row.{rowOf, rowText}
 use Rattle.listing.specs.Listing as listing
 use Rattle.listing.specs.Listing.{Listing, refusedBy, lists, unitListing, badText, refusedText, countsText}
@@ -37,7 +38,7 @@ unitIn p unit = take (p .length) unit
 
 -- what a run begins with
 abbrev pub startsWith : Told Place
-startsWith = asks (record { wait = wait.Head; mtu = 0; length = 0; obus = 0; packets = 0 }) [] headBytes
+startsWith = asks (record { wait = wait.Head; mtu = 0; length = 0; obus = 0; packets = 0 }) [] headWidth
 
 -- a text is written, and the run is over
 abbrev pub prints : Place → List ℕ → Told Place

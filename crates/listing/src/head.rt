@@ -1,12 +1,17 @@
 // The head of the input (G8, L12).
 use crate::HeadRead;
 use crate::Stated;
+use base::big_endian::number_at;
 ghost use mathlib.Core.Path.{_≡_};
 ghost use Rattle.listing.specs.Input.{headOf};
 ghost use Rattle.listing.specs.Paper.{paperHead};
 
-// The version byte.
+// The version byte; the widths of the mtu and of the length.
 const VERSION: u8 = 1;
+
+const MTU_WIDTH: usize = 2;
+
+const LENGTH_WIDTH: usize = 4;
 
 // The head, or what there is of it.
 pub fn read_head(head: &[u8]) -> HeadRead
@@ -18,8 +23,8 @@ pub fn read_head(head: &[u8]) -> HeadRead
     if head[0] != VERSION {
         return HeadRead::Bad;
     }
-    let mtu = train::two_bytes(head, 1) as usize;
-    let length = train::four_bytes(head, 3);
+    let mtu = number_at(head, 1, MTU_WIDTH);
+    let length = number_at(head, 1 + MTU_WIDTH, LENGTH_WIDTH);
     if length > crate::UNIT_STORE {
         return HeadRead::Bad;
     }

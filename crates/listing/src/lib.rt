@@ -22,9 +22,9 @@ ghost use Rattle.listing.specs.Steps.{startsWith, awaits, prints, headTo
 // The bytes of a head, of the unit store, and the numbers of a list of 512 records (L12, L13).
 const HEAD_BYTES: usize = 7;
 
-pub const UNIT_STORE: usize = 32768;
+pub const UNIT_STORE: usize = turns::UNIT_STORE;
 
-pub const LIST_NUMBERS: usize = 512 * packetizer::PLAN_NUMBERS;
+pub const LIST_NUMBERS: usize = turns::LIST_RECORDS * packetizer::PLAN_NUMBERS;
 
 // What a head states.
 struct Stated {

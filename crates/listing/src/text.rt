@@ -2,12 +2,13 @@
 use crate::Row;
 ghost use mathlib.Core.Path.{_≡_};
 ghost use Prim.Native.Nat.{_+_, _*_, _≤_, _<_};
+ghost use mathlib.Core.List.{flatMap};
 ghost use lib.ListN.{length, getD};
 ghost use Rattle.base.specs.Answers.{given};
 ghost use Rattle.base.specs.Lists.{Put};
-ghost use Rattle.packetizer.specs.Plan.{planNumbers};
-ghost use Rattle.aggregation.specs.Header.{noPacket, byteOf, headerOf};
-ghost use Rattle.aggregation.specs.Flat.{obusIn, packetsIn};
+ghost use Rattle.obu.specs.Records.{obusIn};
+ghost use Rattle.packetizer.specs.Records.{planNumbers, noPacket, packetsIn};
+ghost use Rattle.aggregation.specs.Header.{byteOf, headerOf};
 ghost use Rattle.turns.specs.Text.{lineBytes, mostDigits};
 ghost use Rattle.listing.specs.Row.{rowOf, capital, column, twoDigits, rowText};
 ghost use Rattle.listing.specs.Listing.{twoNumbers};
@@ -20,8 +21,8 @@ pub fn row_at(obus: &[u32], plan: &[u32], k: usize) -> Row
     requires { ⌜ headerOf (obusIn (now obus)) (packetsIn (now plan)) k ≡ given (byteOf (obusIn (now obus)) (getD (packetsIn (now plan)) k noPacket) k) ⌝ }
     ensures { λ r. ⌜ r ≡ rowOf (obusIn (now (obus .entry))) (packetsIn (now (plan .entry))) k ⌝ }
 {
-    let p = aggregation::packet_at(plan, k);
-    let header = payloader::header_byte(obus, plan, k);
+    let p = packetizer::packet_at(plan, k);
+    let header = aggregation::header_byte(obus, plan, k);
     Row {
         packet: k,
         first_obu: p.first_obu_index,
@@ -59,18 +60,36 @@ fn put_column(n: u64, out: &mut [u8], at: usize) -> usize
     base::put_text(b" ", out, blank)
 }
 
+// Numbers, each with the blank after it, at the front of the bytes lent, and the cursor after them.
+fn put_columns(numbers: &[u64], out: &mut [u8]) -> usize
+    requires { ⌜ length (now numbers) * (mostDigits + 1) ≤ length (now out) ⌝ }
+    ensures { λ r. ⌜ Put (now (out .entry)) (now (out .exit)) 0 r (flatMap column (now (numbers .entry)))
+        × (r ≤ length (now (numbers .entry)) * (mostDigits + 1)) ⌝ }
+{
+    let mut at: usize = 0;
+    let mut i: usize = 0;
+    while i < numbers.len() {
+        at = put_column(numbers[i], out, at);
+        i += 1;
+    }
+    at
+}
+
 // The line of a packet at the front of the bytes lent, and how many it has.
 // Helper: `out` must have exactly LINE_BYTES bytes.
 pub fn put_row(row: Row, out: &mut [u8]) -> usize
     requires { ⌜ length (now out) ≡ lineBytes ⌝ }
     ensures { λ r. ⌜ Printed (rowText row) r (now (out .entry)) (now (out .exit)) ⌝ }
 {
-    let first = put_column(row.packet as u64, out, 0);
-    let elements = put_column(row.first_obu as u64, out, first);
-    let offset = put_column(row.elements as u64, out, elements);
-    let last = put_column(row.first_offset as u64, out, offset);
-    let size = put_column(row.last_size as u64, out, last);
-    let header = put_column(row.packet_size as u64, out, size);
+    let numbers = [
+        row.packet as u64,
+        row.first_obu as u64,
+        row.elements as u64,
+        row.first_offset as u64,
+        row.last_size as u64,
+        row.packet_size as u64,
+    ];
+    let header = put_columns(&numbers, out);
     let end = put_byte(row.header, out, header);
     base::put_text(b"\n", out, end)
 }
@@ -81,9 +100,7 @@ pub fn put_two(first: &[u8], m: u64, second: &[u8], n: u64, out: &mut [u8]) -> u
     requires { ⌜ (length (now out) ≡ lineBytes) × (length (now first) + length (now second) ≤ 100) ⌝ }
     ensures { λ r. ⌜ Printed (twoNumbers (now (first .entry)) m (now (second .entry)) n) r (now (out .entry)) (now (out .exit)) ⌝ }
 {
-    let one = base::put_text(first, out, 0);
-    let behind = turns::put_decimal(m, out, one);
-    let two = base::put_text(second, out, behind);
-    let end = turns::put_decimal(n, out, two);
+    let behind = turns::put_labelled(first, m, out, 0);
+    let end = turns::put_labelled(second, n, out, behind);
     base::put_text(b"\n", out, end)
 }

@@ -11,11 +11,13 @@ use lib.Dec.{leb, eqb}
 use borrow.Author.Tests.{eq-eqb, ne-eqb, le-leb, lt-leb, eqb-true, eqb-false, leb-true, leb-false}
 use Rattle.base.proofs.Lists.{take-drop}
 use Rattle.base.proofs.Tests.{by-cond, split-on}
+use Rattle.base.proofs.Streams.{Some}
 use Rattle.leb128.specs.Field.{Field, sized, unreadable, sizeField, longestField}
 use Rattle.leb128.proofs.Reading.{Sized, size-within}
 use Rattle.leb128.proofs.Theorems.{none-shorter, first-eight}
 use Rattle.obu.specs.Header.{extensionBit, sizeBit, headerSize}
-use Rattle.obu.specs.Front.{headBytes, found, stopped, sizedBy, headed, extended, frontOf}
+use Rattle.obu.specs.Front.{headBytes, Seen, found, stopped, sizedBy, headed, extended, frontOf}
+use Rattle.obu.specs.Unit.{obuBy, obuNext}
 use Rattle.obu.specs.Laws.{Spans}
 
 -- ---- what is read lies in the first ten bytes
@@ -125,3 +127,11 @@ front-spans (h ∷ l) =
     with-extension : (m : List ℕ) → extensionBit h ≡ 1 → Spans (h ∷ m) (extended h m)
     with-extension [] x = tt
     with-extension (e ∷ m) x = spans-headed h e (h ∷ (e ∷ m)) m (omega arith)
+
+-- an item of a scan has a byte
+pub obu-some : (at : ℕ) (l : List ℕ) → Some (obuNext at l)
+obu-some at l = go (frontOf l)
+  where
+    go : (x : Seen) → Some (obuBy at x)
+    go (found f) = omega arith
+    go (stopped n) = tt

@@ -4,3 +4,4 @@ pub mod Fronts
 pub mod Wires
 pub mod Scans
 pub mod Theorems
+pub mod Records

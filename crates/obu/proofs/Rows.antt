@@ -2,12 +2,15 @@
 use mathlib.Core.Path.{_≡_, refl}
 use Prim.Native.Nat.{ℕ}
 use mathlib.Core.List.{List, [], _∷_, map, flatMap}
-use Rattle.base.specs.Answers.{given, refused}
+use Rattle.base.specs.Answers.{Answer, given, refused}
 use Rattle.base.specs.Lists.{keep}
+use Rattle.base.specs.Streams.{streamFrom}
 use Rattle.leb128.specs.Field.{fieldIn, encodeIn}
 use Rattle.obu.specs.Front.{frontOf, headed}
-use Rattle.obu.specs.Unit.{scanFrom, listed, obusOf, flat}
+use Rattle.obu.specs.Unit.{listed, obusOf}
 use Rattle.obu.specs.Wire.{wholeOf, wire}
+use Rattle.obu.specs.declared.Listed.{Listed}
+use Rattle.obu.specs.Records.{flat}
 
 units : List (List ℕ)
 units =
@@ -26,23 +29,27 @@ units =
     ∷ (0x32 ∷ 0 ∷ 0x7a ∷ 0 ∷ 0x32 ∷ [])
     ∷ []
 
+-- a unit of so many kept OBUs
+lists : ℕ → Answer Listed
+lists n = given (record { obus = n })
+
 table :
     map (listed 2) units
-    ≡ given 0 ∷ given 2 ∷ given 1 ∷ given 1 ∷ given 1 ∷ refused 7 4
+    ≡ lists 0 ∷ lists 2 ∷ lists 1 ∷ lists 1 ∷ lists 1 ∷ refused 7 4
     ∷ refused 3 0 ∷ refused 4 0 ∷ refused 4 0 ∷ refused 5 0 ∷ refused 7 0 ∷ refused 6 0 ∷ refused 4 4 ∷ []
-unfolding units listed scanFrom frontOf headed fieldIn keep
+unfolding units lists listed streamFrom frontOf headed fieldIn keep
 table = refl
 
 -- with space for one record, the second kept OBU is refused before the third is looked at
 early : listed 1 (0x32 ∷ 0 ∷ 0x32 ∷ 0 ∷ 0x32 ∷ 2 ∷ 0xa1 ∷ []) ≡ refused 8 2
-unfolding listed scanFrom frontOf headed fieldIn keep
+unfolding listed streamFrom frontOf headed fieldIn keep
 early = refl
 
-lists :
+flattened :
     flat (obusOf (0x12 ∷ 0 ∷ 0x0a ∷ 3 ∷ 0x11 ∷ 0x22 ∷ 0x33 ∷ 0x36 ∷ 8 ∷ 1 ∷ 0xc1 ∷ []))
     ≡ 10 ∷ 0 ∷ 4 ∷ 3 ∷ 4 ∷ 54 ∷ 8 ∷ 10 ∷ 1 ∷ 3 ∷ []
-unfolding scanFrom frontOf headed fieldIn keep flatMap
-lists = refl
+unfolding streamFrom frontOf headed fieldIn keep flatMap
+flattened = refl
 
 -- an OBU of exactly these bytes: broken, or handed out with bit 1 set and a size field; dropped types hand out nothing
 finished : List (List ℕ)

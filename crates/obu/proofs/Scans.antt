@@ -1,7 +1,6 @@
 -- Going through a unit: a step of the scan, and what the loop over it keeps. Assumes nothing.
 use mathlib.Core.Path.{_≡_, refl, sym, ap, subst, _∙_}
-use Prim.Native.Nat.{ℕ, zero, suc, _+_, _-_, _*_, _≤_, _<_}
-use native.Mathlib.Nat.{add-zero}
+use Prim.Native.Nat.{ℕ, _+_, _*_, _≤_, _<_}
 use native.Mathlib.Omega.{arith}
 use mathlib.Core.List.{List, [], _∷_, _++_, append-nil, append-assoc, map, map-append, flatMap}
 use mathlib.Core.Bool.{Bool, true, false, cond, not}
@@ -11,67 +10,49 @@ use lib.Dec.{ltb}
 use borrow.Author.Tests.{lt-ltb, le-ltb, ltb-true, ltb-false}
 use Rattle.base.specs.Answers.{given, refused, stored}
 use Rattle.base.specs.Lists.{front, keep}
-use Rattle.base.proofs.Lists.{keep-yes, keep-no, keep-none, keep-append, front-sets, flatMap-append, flatMap-one, flatMap-length}
+use Rattle.base.specs.Streams.{chained, streamFrom}
+use Rattle.base.proofs.Lists.{keep-yes, keep-no, keep-none, keep-append, front-sets}
 use Rattle.base.proofs.Tests.{split-on}
+use Rattle.base.proofs.Streams.{stream-step}
 use Rattle.obu.specs.Header.{typeOf, drops}
 use Rattle.obu.specs.Front.{Front, spanOf, Seen, found, stopped, frontOf}
-use Rattle.obu.specs.Unit.{unitLimit, obuNumbers, Placed, placed, Stop, ended, refusedBy, Scan, followed, scanFrom, scanOf, isKept, keptOf, obusOf, atStop, listed, numbersOf, flat}
+use Rattle.obu.specs.Records.{obuNumbers, numbersOf, flat}
+use Rattle.obu.specs.Unit.{unitLimit, Placed, placed, ScanEnd, ended, refusedBy, Scan, obuBy, obuNext, scanFrom, scanOf, isKept, keptOf, obusOf, listedOf, atStop, listed}
 use Rattle.obu.specs.Laws.{Spans}
 use Rattle.obu.specs.declared.Obu.{Obu}
-use Rattle.obu.proofs.Fronts.{front-spans}
+use Rattle.obu.specs.declared.Listed.{Listed}
+use Rattle.obu.proofs.Fronts.{front-spans, obu-some}
+use Rattle.obu.proofs.Records.{flat-length, flat-snoc}
 
 -- ---- a step of the scan
 
-scan-skip : (l : List ℕ) (s at : ℕ) → s ≤ length l → scanFrom l s at ≡ scanFrom (drop s l) 0 (at + s)
-unfolding scanFrom
-scan-skip [] zero at h = refl
-scan-skip [] (suc s) at h = absurd (omega arith)
-scan-skip (b ∷ l) zero at h = rw (add-zero at)
-scan-skip (b ∷ l) (suc s) at h =
-    let e : at + 1 + s ≡ at + suc s = omega arith in
-    scan-skip l s (at + 1) (omega arith) ∙ ap (scanFrom (drop s l) 0) e
+-- by what stands at the front
+scan-by : (l : List ℕ) (at : ℕ) (x : Seen) → x ≡ frontOf l → 1 ≤ length l → scanFrom l at ≡ chained (obuBy at x) (λ n t. scanFrom (drop n l) t)
+scan-by l at x e h = stream-step obuNext ended obu-some l at h ∙ ap (λ (y : Seen). chained (obuBy at y) (λ n t. scanFrom (drop n l) t)) (sym e)
 
 -- an OBU and then the scan of what follows it
 abbrev pub foundThen : ℕ → Front → List ℕ → Scan
 foundThen at f l =
     record {
-      obus = placed at f ∷ scanFrom (drop (spanOf f) l) 0 (at + spanOf f) .obus;
-      stop = scanFrom (drop (spanOf f) l) 0 (at + spanOf f) .stop;
+      items = placed at f ∷ scanFrom (drop (spanOf f) l) (at + spanOf f) .items;
+      stop = scanFrom (drop (spanOf f) l) (at + spanOf f) .stop;
     }
 
-pub scan-found : (l : List ℕ) (at : ℕ) (f : Front) → found f ≡ frontOf l → 1 ≤ length l → scanFrom l 0 at ≡ foundThen at f l
-unfolding scanFrom
-scan-found [] at f e h = absurd (omega arith)
-scan-found (b ∷ l) at f e h =
-    let s : Spans (b ∷ l) (found f) = subst (Spans (b ∷ l)) (sym e) (front-spans (b ∷ l)) in
-    let n : spanOf f ≡ suc (spanOf f - 1) = omega arith in
-    let m : at + 1 + (spanOf f - 1) ≡ at + spanOf f = omega arith in
-    let d : drop (spanOf f) (b ∷ l) ≡ drop (spanOf f - 1) l = ap (λ (k : ℕ). drop k (b ∷ l)) n in
-    let r : scanFrom l (spanOf f - 1) (at + 1) ≡ scanFrom (drop (spanOf f) (b ∷ l)) 0 (at + spanOf f) =
-    scan-skip l (spanOf f - 1) (at + 1) (omega arith) ∙ rw (m, d) in
-    ap (λ (x : Seen). followed at x (λ k. scanFrom l (k - 1) (at + 1))) (sym e)
-    ∙ ap (λ (x : Scan). record { obus = placed at f ∷ x .obus; stop = x .stop }) r
+pub scan-found : (l : List ℕ) (at : ℕ) (f : Front) → found f ≡ frontOf l → 1 ≤ length l → scanFrom l at ≡ foundThen at f l
+scan-found l at f e h = scan-by l at (found f) e h
 
-pub scan-stopped : (l : List ℕ) (at n : ℕ) → stopped n ≡ frontOf l → 1 ≤ length l → scanFrom l 0 at ≡ record { obus = []; stop = refusedBy n at }
-unfolding scanFrom
-scan-stopped [] at n e h = absurd (omega arith)
-scan-stopped (b ∷ l) at n e h = ap (λ (x : Seen). followed at x (λ k. scanFrom l (k - 1) (at + 1))) (sym e)
+pub scan-stopped : (l : List ℕ) (at n : ℕ) → stopped n ≡ frontOf l → 1 ≤ length l → scanFrom l at ≡ record { items = []; stop = refusedBy n at }
+scan-stopped l at n e h = scan-by l at (stopped n) e h
 
 -- ---- lists of records
 
 abbrev pub recordsOf : List Placed → List Obu
 recordsOf ps = map (λ (p : Placed). p .obu) ps
 
-pub flat-length : (os : List Obu) → length (flat os) ≡ length os * obuNumbers
-flat-length os = flatMap-length numbersOf obuNumbers (λ o. refl) os
-
-pub flat-snoc : (os : List Obu) (o : Obu) → flat (os ++ (o ∷ [])) ≡ flat os ++ numbersOf o
-flat-snoc os o = flatMap-append numbersOf os (o ∷ []) ∙ ap (λ (l : List ℕ). flat os ++ l) (flatMap-one numbersOf o)
-
 -- ---- the list call, by what there is
 
 module _ (unit : List ℕ) (space : ℕ) (small : length unit ≤ unitLimit) where
-  pub listed-enough : length (keptOf unit) ≤ space → listed space unit ≡ atStop (scanOf unit .stop) (length (keptOf unit))
+  pub listed-enough : length (keptOf unit) ≤ space → listed space unit ≡ atStop (scanOf unit .stop) (listedOf unit)
   unfolding listed
   listed-enough h = rw (le-ltb unitLimit (length unit) small, le-ltb space (length (keptOf unit)) h)
 
@@ -83,12 +64,12 @@ pub listed-large : (unit : List ℕ) (space : ℕ) → unitLimit < length unit �
 unfolding listed
 listed-large unit space h = rw (lt-ltb unitLimit (length unit) h)
 
--- what is stored in the lent list: all records if the answer is their number, nothing if it is a refusal
-pub stored-all : (unit : List ℕ) (space n : ℕ) (l : List ℕ) → length unit ≤ unitLimit → given n ≡ listed space unit
+-- what is stored in the lent list: all records if the unit is listed, nothing if it is refused
+pub stored-all : (unit : List ℕ) (space : ℕ) (g : Listed) (l : List ℕ) → length unit ≤ unitLimit → given g ≡ listed space unit
     → front (flat (take space (obusOf unit))) l ≡ stored (listed space unit) (flat (obusOf unit)) l
-stored-all unit space n l u e = split-on (ltb space (length (keptOf unit)))
+stored-all unit space g l u e = split-on (ltb space (length (keptOf unit)))
     (λ t.
-    let f : given n ≡ refused 8 (getD (map (λ (p : Placed). p .at) (keptOf unit)) space 0) = e ∙ listed-full unit space u (ltb-true space (length (keptOf unit)) t) in
+    let f : given g ≡ refused 8 (getD (map (λ (p : Placed). p .at) (keptOf unit)) space 0) = e ∙ listed-full unit space u (ltb-true space (length (keptOf unit)) t) in
     let z : _≡_ {A = ℕ} 0 1 = cc in
     absurd (omega arith))
     (λ t.
@@ -105,8 +86,8 @@ pub record Passed (unit : List ℕ) (space : ℕ) (l₀ : List ℕ) (store : Boo
   pub inside : at ≤ length unit
   pub most : n ≤ space
   pub few : n ≤ at
-  pub all : scanOf unit .obus ≡ acc ++ scanFrom (drop at unit) 0 at .obus
-  pub stop : scanOf unit .stop ≡ scanFrom (drop at unit) 0 at .stop
+  pub all : scanOf unit .items ≡ acc ++ scanFrom (drop at unit) at .items
+  pub stop : scanOf unit .stop ≡ scanFrom (drop at unit) at .stop
   pub counted : length (keep isKept acc) ≡ n
   pub same : length l ≡ length l₀
   pub wrote : l ≡ cond store (front (flat (recordsOf (keep isKept acc))) l₀) l₀
@@ -149,7 +130,7 @@ module _ (unit : List ℕ) (space : ℕ) (l₀ : List ℕ) (store : Bool) (l : L
   abbrev passedKept : List Placed
   passedKept = keep isKept (w .acc)
 
-  kept-split : (rest : List Placed) → scanFrom (drop at unit) 0 at .obus ≡ rest → keptOf unit ≡ passedKept ++ keep isKept rest
+  kept-split : (rest : List Placed) → scanFrom (drop at unit) at .items ≡ rest → keptOf unit ≡ passedKept ++ keep isKept rest
   kept-split rest e = ap (keep isKept) (w .all ∙ ap (λ (r : List Placed). w .acc ++ r) e) ∙ keep-append isKept (w .acc) rest
 
   -- ---- an OBU was found
@@ -160,19 +141,19 @@ module _ (unit : List ℕ) (space : ℕ) (l₀ : List ℕ) (store : Bool) (l : L
         let s : Spans (drop at unit) (found f) = subst (Spans (drop at unit)) (sym seen) (front-spans (drop at unit)) in
         omega (arith, length-drop at unit)
 
-    scan-next : scanFrom (drop at unit) 0 at ≡ foundThen at f (drop at unit)
+    scan-next : scanFrom (drop at unit) at ≡ foundThen at f (drop at unit)
     scan-next = scan-found (drop at unit) at f seen (omega (arith, length-drop at unit))
 
     rest-at : drop (spanOf f) (drop at unit) ≡ drop (at + spanOf f) unit
     rest-at = drop-drop (spanOf f) at unit
 
-    all-next : scanOf unit .obus ≡ (w .acc ++ (placed at f ∷ [])) ++ scanFrom (drop (at + spanOf f) unit) 0 (at + spanOf f) .obus
+    all-next : scanOf unit .items ≡ (w .acc ++ (placed at f ∷ [])) ++ scanFrom (drop (at + spanOf f) unit) (at + spanOf f) .items
     all-next =
         w .all
-        ∙ ap (λ (s : Scan). w .acc ++ s .obus) scan-next
-        ∙ rw rest-at (sym (append-assoc (w .acc) (placed at f ∷ []) (scanFrom (drop (at + spanOf f) unit) 0 (at + spanOf f) .obus)))
+        ∙ ap (λ (s : Scan). w .acc ++ s .items) scan-next
+        ∙ rw rest-at (sym (append-assoc (w .acc) (placed at f ∷ []) (scanFrom (drop (at + spanOf f) unit) (at + spanOf f) .items)))
 
-    stop-next : scanOf unit .stop ≡ scanFrom (drop (at + spanOf f) unit) 0 (at + spanOf f) .stop
+    stop-next : scanOf unit .stop ≡ scanFrom (drop (at + spanOf f) unit) (at + spanOf f) .stop
     stop-next = w .stop ∙ ap (λ (s : Scan). s .stop) scan-next ∙ rw rest-at
 
     kept-next : (t : Bool) → isKept (placed at f) ≡ t → keep isKept (w .acc ++ (placed at f ∷ [])) ≡ passedKept ++ cond t (placed at f ∷ []) []
@@ -215,9 +196,9 @@ module _ (unit : List ℕ) (space : ℕ) (l₀ : List ℕ) (store : Bool) (l : L
     pub passed-full : drops (typeOf (f .header)) ≡ false → n ≡ space → length unit ≤ unitLimit
         → (refused 8 at ≡ listed space unit) × (l ≡ cond store (front (flat (take space (obusOf unit))) l₀) l₀)
     passed-full t h u =
-        let r : List Placed = keep isKept (scanFrom (drop (spanOf f) (drop at unit)) 0 (at + spanOf f) .obus) in
+        let r : List Placed = keep isKept (scanFrom (drop (spanOf f) (drop at unit)) (at + spanOf f) .items) in
         let k : keptOf unit ≡ passedKept ++ (placed at f ∷ r) =
-        kept-split _ (ap (λ (s : Scan). s .obus) scan-next) ∙ ap (λ (ps : List Placed). passedKept ++ ps) (keep-yes isKept (placed at f) _ (ap not t)) in
+        kept-split _ (ap (λ (s : Scan). s .items) scan-next) ∙ ap (λ (ps : List Placed). passedKept ++ ps) (keep-yes isKept (placed at f) _ (ap not t)) in
         let c : length passedKept ≡ space = w .counted ∙ h in
         let long : space < length (keptOf unit) = rw k (omega (arith, length-append passedKept (placed at f ∷ r))) in
         let a : getD (map (λ (p : Placed). p .at) (keptOf unit)) space 0 ≡ at =
@@ -228,10 +209,10 @@ module _ (unit : List ℕ) (space : ℕ) (l₀ : List ℕ) (store : Bool) (l : L
 
   -- ---- nothing more is found
 
-  nothing-more : (s : Stop) → scanFrom (drop at unit) 0 at ≡ record { obus = []; stop = s } → length unit ≤ unitLimit
-      → (atStop s n ≡ listed space unit) × (l ≡ cond store (front (flat (take space (obusOf unit))) l₀) l₀)
+  nothing-more : (s : ScanEnd) → scanFrom (drop at unit) at ≡ record { items = []; stop = s } → length unit ≤ unitLimit
+      → (atStop s (record { obus = n }) ≡ listed space unit) × (l ≡ cond store (front (flat (take space (obusOf unit))) l₀) l₀)
   nothing-more s e u =
-      let k : keptOf unit ≡ passedKept = kept-split [] (ap (λ (x : Scan). x .obus) e) ∙ rw (keep-none isKept) (append-nil passedKept) in
+      let k : keptOf unit ≡ passedKept = kept-split [] (ap (λ (x : Scan). x .items) e) ∙ rw (keep-none isKept) (append-nil passedKept) in
       let c : length (keptOf unit) ≡ n = ap length k ∙ w .counted in
       let o : take space (obusOf unit) ≡ recordsOf passedKept =
       take-all space (obusOf unit) (omega (arith, length-map (keptOf unit) (λ (p : Placed). p .obu), c, w .most)) ∙ ap recordsOf k in
@@ -243,6 +224,6 @@ module _ (unit : List ℕ) (space : ℕ) (l₀ : List ℕ) (store : Bool) (l : L
   passed-stop k e h u = nothing-more (refusedBy k at) (scan-stopped (drop at unit) at k e (omega (arith, length-drop at unit))) u
 
   pub passed-end : length unit ≤ at → length unit ≤ unitLimit
-      → (given n ≡ listed space unit) × (l ≡ cond store (front (flat (take space (obusOf unit))) l₀) l₀)
-  unfolding scanFrom
-  passed-end h u = nothing-more ended (ap (λ (x : List ℕ). scanFrom x 0 at) (drop-of-length-le unit h)) u
+      → (given (record { obus = n }) ≡ listed space unit) × (l ≡ cond store (front (flat (take space (obusOf unit))) l₀) l₀)
+  unfolding streamFrom
+  passed-end h u = nothing-more ended (ap (λ (x : List ℕ). scanFrom x at) (drop-of-length-le unit h)) u

@@ -4,57 +4,49 @@
 --     sent-length   what is sent of it has its size
 --     wire-sent     what a receiver makes of that: bit 1 set, extension byte, shortest size field, payload
 --     wire-small    for all kept OBUs of a unit that is at most the unit's length plus 3 bytes
-use mathlib.Core.Path.{_≡_, refl, sym, ap, ap₂, subst, _∙_}
-use Prim.Native.Nat.{ℕ, zero, suc, _+_, _-_, _*_, _/_, _%_, _≤_, _<_}
+use mathlib.Core.Path.{_≡_, refl, sym, ap, ap₂, _∙_}
+use Prim.Native.Nat.{ℕ, suc, _+_, _-_, _*_, _/_, _%_, _≤_, _<_}
 use native.Mathlib.Omega.{arith}
 use mathlib.Core.List.{List, [], _∷_, _++_, map, flatMap}
 use mathlib.Core.Bool.{Bool, true, false, cond}
 use mathlib.Core.Logic.{⊎-elim}
 use lib.ListN.{length, drop, length-append, length-drop}
-use lib.Seq.{length-take-le}
+use lib.Seq.{length-take-le, getD-drop}
 use lib.Dec.{leb, eqb}
 use lib.Pow.{shr-shr}
 use borrow.Author.Tests.{eq-eqb, ne-eqb, eqb-true, eqb-false}
 use Rattle.base.specs.Answers.{given}
 use Rattle.base.specs.Lists.{keep, All}
+use Rattle.base.specs.Streams.{chained}
 use Rattle.base.proofs.Lists.{all-keep}
 use Rattle.base.proofs.Tests.{by-cond}
+use Rattle.base.proofs.Streams.{Keeps, After, stream-each, stream-all}
 use Rattle.leb128.specs.Field.{Field, sized, unreadable, sizeField, encode}
 use Rattle.leb128.proofs.Theorems.{size-most}
 use Rattle.obu.specs.Header.{typeOf, extensionBit, sizeBit, headerSize, cleared, marked, drops}
-use Rattle.obu.specs.Front.{Front, spanOf, Seen, found, stopped, sizedBy, headed, extended, frontOf}
-use Rattle.obu.specs.Unit.{unitLimit, Placed, placed, Scan, followed, scanFrom, scanOf, isKept, keptOf, obusOf}
+use Rattle.obu.specs.Front.{spanOf, Seen, found, stopped, sizedBy, headed, extended, frontOf}
+use Rattle.obu.specs.Unit.{unitLimit, Placed, ended, Scan, obuBy, obuNext, scanFrom, scanOf, isKept, keptOf, obusOf}
 use Rattle.obu.specs.Wire.{extensionBytes, payloadOf, sent, wholeOf, wire, wireOf}
 use Rattle.obu.specs.Laws.{Inside, Bytes, Small, Spans}
 use Rattle.obu.specs.declared.Obu.{Obu}
-use Rattle.obu.proofs.Fronts.{front-spans}
+use Rattle.obu.proofs.Fronts.{front-spans, obu-some}
 
 -- ---- an OBU lies in its unit
 
--- what holds of every OBU that is found, if it follows from something that holds of the bytes and of each tail of them
-module _ (P : Placed → Type 0) (Q : List ℕ → ℕ → Type 0) (tail : (b : ℕ) (l : List ℕ) (at : ℕ) → Q (b ∷ l) at → Q l (at + 1))
-    (so : (l : List ℕ) (at : ℕ) (f : Front) → Q l at → found f ≡ frontOf l → P (placed at f))
-  where
-    all-next : (at : ℕ) (l : List ℕ) (s : Seen) (rest : ℕ → Scan) → s ≡ frontOf l → Q l at → ((n : ℕ) → All P (rest n .obus)) → All P (followed at s rest .obus)
-    all-next at l (stopped n) rest e q r = tt
-    all-next at l (found f) rest e q r = (so l at f q e, r (spanOf f))
+-- bytes that end where the unit ends
+abbrev EndsAt : ℕ → ℕ → List ℕ → Type 0
+EndsAt total at l = at + length l ≡ total
 
-    scan-all : (l : List ℕ) (skip at : ℕ) → Q l at → All P (scanFrom l skip at .obus)
-    unfolding scanFrom
-    scan-all [] skip at q = tt
-    scan-all (b ∷ l) (suc skip) at q = scan-all l skip (at + 1) (tail b l at q)
-    scan-all (b ∷ l) zero at q =
-        all-next at (b ∷ l) (frontOf (b ∷ l)) (λ n. scanFrom l (n - 1) (at + 1)) refl q (λ n. scan-all l (n - 1) (at + 1) (tail b l at q))
-
-inside-found : (total : ℕ) (l : List ℕ) (at : ℕ) (f : Front) → at + length l ≡ total → found f ≡ frontOf l → Inside total (placed at f)
-inside-found total l at f q e =
-    let s : Spans l (found f) = subst (Spans l) (sym e) (front-spans l) in
-    record { start = refl; within = omega arith; size = refl }
+inside-found : (total at : ℕ) (l : List ℕ) (x : Seen) → Spans l x → EndsAt total at l → Keeps (Inside total) (EndsAt total) l (obuBy at x)
+inside-found total at l (stopped n) s q = tt
+inside-found total at l (found f) s q = (record { start = refl; within = omega arith; size = refl }, omega (arith, length-drop (spanOf f) l))
 
 pub kept-inside : (unit : List ℕ) → All (Inside (length unit)) (keptOf unit)
 kept-inside unit =
-    all-keep (Inside (length unit)) isKept (scanOf unit .obus)
-    (scan-all (Inside (length unit)) (λ (l : List ℕ) (at : ℕ). at + length l ≡ length unit) (λ b l at q. omega arith) (inside-found (length unit)) unit 0 0 (omega arith))
+    all-keep (Inside (length unit)) isKept (scanOf unit .items)
+    (stream-all obuNext ended obu-some (Inside (length unit)) (EndsAt (length unit))
+    (λ at l h q. inside-found (length unit) at l (frontOf l) (front-spans l) q)
+    unit 0 (omega arith))
 
 abbrev SmallFront : Seen → Type 0
 SmallFront (found f) = (f .header < 256) × (f .extension < 256)
@@ -80,15 +72,14 @@ small-front (h ∷ l) q = by-cond SmallFront (eqb (extensionBit h) 1) (extended 
     second [] r = tt
     second (e ∷ m) r = small-headed h e m (r 0) (r 1)
 
-small-found : (l : List ℕ) (at : ℕ) (f : Front) → Bytes l → found f ≡ frontOf l → Small (placed at f)
-small-found l at f q e =
-    let s : SmallFront (found f) = subst SmallFront (sym e) (small-front l q) in
-    record { header = s .0; extension = s .1 }
+small-found : (at : ℕ) (l : List ℕ) (x : Seen) → SmallFront x → Bytes l → Keeps Small (λ t. Bytes) l (obuBy at x)
+small-found at l (stopped n) s q = tt
+small-found at l (found f) s q = (record { header = s .0; extension = s .1 }, λ i. rw (getD-drop (spanOf f) l i 0) (q (spanOf f + i)))
 
 pub kept-small : (unit : List ℕ) → Bytes unit → All Small (keptOf unit)
 kept-small unit q =
-    all-keep Small isKept (scanOf unit .obus)
-    (scan-all Small (λ (l : List ℕ) (at : ℕ). Bytes l) (λ b l at r i. r (suc i)) small-found unit 0 0 q)
+    all-keep Small isKept (scanOf unit .items)
+    (stream-all obuNext ended obu-some Small (λ t. Bytes) (λ at l h r. small-found at l (frontOf l) (small-front l r) r) unit 0 q)
 
 pub inside-size : (total : ℕ) (p : Placed) → Inside total p → (1 ≤ p .obu .size) × (p .obu .size ≤ total)
 inside-size total p i = omega arith
@@ -159,30 +150,27 @@ Bounded left w = (w ≤ left + 3) × (left ≡ 0 → w ≡ 0)
 field-small : (v : ℕ) → v ≤ unitLimit → length (encode v) ≤ 3
 field-small v h = size-most 3 v (omega arith) (omega arith) (omega arith)
 
-weight-next : (at : ℕ) (l : List ℕ) (s : Seen) (rest : ℕ → Scan) → Spans l s → length l ≤ unitLimit → ((n : ℕ) → Bounded (length l - n) (weight (rest n .obus)))
-    → Bounded (length l) (weight (followed at s rest .obus))
+-- of a scan of so many bytes
+abbrev Weighs : List ℕ → ℕ → Scan → Type 0
+Weighs l at s = length l ≤ unitLimit → Bounded (length l) (weight (s .items))
+
+weight-next : (at : ℕ) (l : List ℕ) (x : Seen) → Spans l x → After Weighs scanFrom l (obuBy at x)
+    → Weighs l at (chained (obuBy at x) (λ n t. scanFrom (drop n l) t))
 unfolding weight wireSize
-weight-next at l (stopped n) rest s u r = omega arith
-weight-next at l (found f) rest s u r =
-    let k = r (spanOf f) in
+weight-next at l (stopped n) s r u = omega arith
+weight-next at l (found f) s r u =
+    let d : length (drop (spanOf f) l) ≡ length l - spanOf f = length-drop (spanOf f) l in
+    let k = r (omega arith) in
     ⊎-elim
     (λ short. (omega arith, λ z. absurd (omega arith)))
     (λ last.
-    let none : weight (rest (spanOf f) .obus) ≡ 0 = k .1 (omega arith) in
+    let none : weight (scanFrom (drop (spanOf f) l) (at + spanOf f) .items) ≡ 0 = k .1 (omega arith) in
     (omega (arith, field-small (f .payload) (omega arith)), λ z. absurd (omega arith)))
     (s .1)
 
-weight-from : (l : List ℕ) (skip at : ℕ) → length l ≤ unitLimit → Bounded (length l - skip) (weight (scanFrom l skip at .obus))
-unfolding scanFrom weight
-weight-from [] skip at u = (omega arith, λ z. refl)
-weight-from (b ∷ l) (suc skip) at u =
-    let i = weight-from l skip (at + 1) (omega arith) in
-    (omega arith, λ z. i .1 (omega arith))
-weight-from (b ∷ l) zero at u =
-    let w =
-    weight-next at (b ∷ l) (frontOf (b ∷ l)) (λ n. scanFrom l (n - 1) (at + 1)) (front-spans (b ∷ l)) u
-    (λ n. let i = weight-from l (n - 1) (at + 1) (omega arith) in (omega arith, λ z. i .1 (omega arith))) in
-    (omega arith, λ z. w .1 (omega arith))
+weight-from : (l : List ℕ) (at : ℕ) → Weighs l at (scanFrom l at)
+unfolding weight
+weight-from = stream-each obuNext ended obu-some Weighs (λ t u. omega arith) (λ at l h r. weight-next at l (frontOf l) (front-spans l) r)
 
 weight-keep : (test : Placed → Bool) (ps : List Placed) → weight (keep test ps) ≤ weight ps
 unfolding keep weight
@@ -207,4 +195,4 @@ weight-is unit (p ∷ ps) h =
 
 pub wire-small : (unit : List ℕ) → length unit ≤ unitLimit → length (flatMap (wireOf unit) (obusOf unit)) ≤ length unit + 3
 wire-small unit u =
-    omega (arith, weight-is unit (keptOf unit) (kept-inside unit), weight-keep isKept (scanOf unit .obus), weight-from unit 0 0 u .0)
+    omega (arith, weight-is unit (keptOf unit) (kept-inside unit), weight-keep isKept (scanOf unit .items), weight-from unit 0 u .0)

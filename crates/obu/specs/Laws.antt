@@ -8,6 +8,7 @@ use Rattle.leb128.specs.Field.{encode}
 use Rattle.obu.specs.Header.{headerSize}
 use Rattle.obu.specs.Front.{spanOf, Seen, found, stopped}
 use Rattle.obu.specs.Unit.{Placed}
+use Rattle.obu.specs.declared.Obu.{Obu}
 
 -- numbers that are bytes
 abbrev pub Bytes : List ℕ → Type 0
@@ -28,3 +29,10 @@ pub record Inside (total : ℕ) (p : Placed) : Type 0 where
 pub record Small (p : Placed) : Type 0 where
   pub header : p .obu .header < 256
   pub extension : p .obu .extension < 256
+
+-- an OBU of a unit, by its record alone: all of these
+pub record Lies (unit : List ℕ) (o : Obu) : Type 0 where
+  pub header : o .header < 256
+  pub extension : o .extension < 256
+  pub within : o .start + o .length ≤ length unit
+  pub size : o .size ≡ headerSize (o .header) + o .length

@@ -1,9 +1,9 @@
 -- The number and values that the rules have for each answer of the code.
-use Prim.Native.Nat.{ℕ}
 use Rattle.base.specs.Refusals.{numberOf}
 use Rattle.base.specs.Answers.{Answer, given, refused}
 use Rattle.obu.specs.Front as front
 use Rattle.obu.specs.declared.Head.{Head}
+use Rattle.obu.specs.declared.Listed.{Listed}
 use Rattle.obu.specs.declared.ObuRead.{ObuRead}
 use Rattle.obu.specs.declared.ObuRead.the-variants as read
 use Rattle.obu.specs.declared.ObuList.{ObuList}
@@ -27,6 +27,6 @@ abbrev pub paperWhole : ObuRead → Answer front.Front
 paperWhole (read.Found f) = given (paperHead f)
 paperWhole (read.Refused r) = refused (numberOf r) 0
 
-abbrev pub paperList : ObuList → Answer ℕ
-paperList (list.Listed l) = given (l .obus)
+abbrev pub paperList : ObuList → Answer Listed
+paperList (list.Listed l) = given l
 paperList (list.Refused r at) = refused (numberOf r) at

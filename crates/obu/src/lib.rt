@@ -4,15 +4,16 @@ use leb128::SizeRead;
 ghost use mathlib.Core.Path.{_≡_};
 ghost use Prim.Native.Nat.{ℕ, _+_, _*_, _^_, _≤_, _<_, min};
 ghost use mathlib.Core.Bool.{true, cond};
-ghost use mathlib.Core.List.{List};
+ghost use mathlib.Core.List.{List, _∷_};
 ghost use lib.ListN.{length, take, getD};
 ghost use lib.Dec.{eqb};
 ghost use lib.Seq.{sets};
-ghost use Rattle.base.specs.Lists.{front};
+ghost use Rattle.base.specs.Lists.{replaced, front};
 ghost use Rattle.obu.specs.Header.{typeOf, extensionBit, sizeBit, headerSize, cleared, marked, drops};
 ghost use Rattle.obu.specs.Front.{headBytes, spanOf, frontOf};
-ghost use Rattle.obu.specs.Unit.{unitLimit, obuNumbers, placed, obusOf, numbersOf, flat, listed, listAnswer, listAfter};
-ghost use Rattle.obu.specs.Wire.{wholeOf};
+ghost use Rattle.obu.specs.Records.{obuNumbers, numbersOf, flat, obusIn, noObu};
+ghost use Rattle.obu.specs.Unit.{unitLimit, placed, obusOf, listed, listAnswer, listAfter};
+ghost use Rattle.obu.specs.Wire.{extensionBytes, wholeOf};
 ghost use Rattle.obu.specs.Paper.{paperHead, paperRead, paperWhole, paperList};
 
 // The most bytes of a unit, and the numbers of a record in a flat list.
@@ -107,6 +108,21 @@ pub fn should_ignore_obu_type(obu_type: u8) -> bool
         return true;
     }
     obu_type == 15
+}
+
+// Writes an OBU's header byte with bit 1 set and its extension byte, and returns the cursor after them.
+// Helper: `out` must have the space.
+pub fn put_header(out: &mut [u8], at: usize, header: u8, extension: u8) -> usize
+    requires { ⌜ at + headerSize header ≤ length (now out) ⌝ }
+    ensures { λ r. ⌜ (r ≡ at + headerSize header)
+        × (now (out .exit) ≡ replaced (now (out .entry)) at (marked header ∷ extensionBytes header extension)) ⌝ }
+{
+    out[at] = with_size_bit(header);
+    if obu_has_extension(header) {
+        out[at + 1] = extension;
+        return at + 2;
+    }
+    at + 1
 }
 
 // The extension byte, or 0.
@@ -213,16 +229,30 @@ fn put_obu(obus: &mut [u32], n: usize, o: Obu, store: bool)
     ensures { λ _. ⌜ now (obus .exit) ≡ cond store (sets (now (obus .entry)) (n * obuNumbers) (numbersOf o)) (now (obus .entry)) ⌝ }
 {
     if store {
-        let at = n * OBU_NUMBERS;
-        base::put_five(
-            obus,
-            at,
+        let numbers = [
             o.header as u32,
             o.extension as u32,
             o.start,
             o.length,
             o.size,
-        );
+        ];
+        base::put_numbers(obus, n * OBU_NUMBERS, &numbers);
+    }
+}
+
+// Record i of a flat list of any numbers: of the header and of the extension byte the low byte counts.
+// Helper: the list must have a whole record i.
+pub fn obu_at(obus: &[u32], i: usize) -> Obu
+    requires { ⌜ (i + 1) * obuNumbers ≤ length (now obus) ⌝ }
+    ensures { λ r. ⌜ r ≡ getD (obusIn (now (obus .entry))) i noObu ⌝ }
+{
+    let at = i * OBU_NUMBERS;
+    Obu {
+        header: (obus[at] % 256) as u8,
+        extension: (obus[at + 1] % 256) as u8,
+        start: obus[at + 2],
+        length: obus[at + 3],
+        size: obus[at + 4],
     }
 }
 

@@ -1,40 +1,32 @@
 -- The plan call: what the list call hands on to it, and its outcomes by the tests that the code makes. Assumes nothing.
-use mathlib.Core.Path.{_≡_, refl, sym, ap, ap₂, subst, _∙_}
-use Prim.Native.Nat.{ℕ, zero, suc, _+_, _-_, _*_, _/_, _≤_, _<_}
+use mathlib.Core.Path.{_≡_, refl, sym, ap, ap₂, _∙_}
+use Prim.Native.Nat.{ℕ, zero, suc, _*_, _/_, _≤_, _<_}
 use native.Mathlib.Omega.{arith}
 use mathlib.Core.Bool.{Bool, true, false, cond}
-use mathlib.Core.List.{List, [], _∷_, _++_, map, flatMap}
-use lib.ListN.{length, getD, drop, length-map, length-append}
+use mathlib.Core.List.{List, [], _∷_, map}
+use lib.ListN.{length, getD, take, length-map}
 use lib.Dec.{ltb}
 use borrow.Author.Tests.{ltb-false, lt-ltb, le-ltb}
 use Rattle.base.specs.Answers.{Answer, given, refused, stored}
 use Rattle.base.specs.Lists.{front, keep, All}
 use Rattle.base.proofs.Lists.{front-sets}
 use Rattle.base.proofs.Tests.{by-cond}
-use Rattle.obu.specs.Unit.{unitLimit, obuNumbers, Placed, Stop, ended, refusedBy, followed, scanFrom, scanOf, isKept, keptOf, obusOf, atStop, listed, flat, listAnswer, listAfter}
-use Rattle.obu.specs.Front.{Seen, found, stopped, frontOf, spanOf}
+use Rattle.base.proofs.Streams.{stream-count}
+use Rattle.obu.specs.Unit.{unitLimit, Placed, ScanEnd, ended, refusedBy, obuNext, scanOf, isKept, keptOf, obusOf, listedOf, atStop, listed, listAnswer, listAfter}
 use Rattle.obu.specs.Laws.{Inside}
+use Rattle.obu.specs.Records.{obuNumbers, flat, obusIn}
 use Rattle.obu.specs.declared.Obu.{Obu}
-use Rattle.obu.proofs.Scans.{flat-length}
+use Rattle.obu.specs.declared.Listed.{Listed}
 use Rattle.obu.proofs.Theorems.{kept-inside, inside-size}
-use Rattle.packetizer.specs.Plan.{planNumbers, flatPlan}
-use Rattle.packetizer.specs.Call.{mtuLimit, sizesOf, unitPlan, planned, planAnswer, obusAfter, planAfter}
-use Rattle.packetizer.specs.Paper.{recorded, sizesIn}
+use Rattle.obu.proofs.Records.{obus-part, readBack, obus-flat}
+use Rattle.packetizer.specs.Call.{mtuLimit, sizes, sizesOf, unitPlan, planned, Inputs, toPlan, leaves, planAnswer, planUnit}
+use Rattle.packetizer.specs.Paper.{recorded}
+use Rattle.packetizer.specs.Inside.{Small, Plannable}
+use Rattle.packetizer.specs.Records.{planNumbers, flatPlan}
 use Rattle.packetizer.specs.declared.Planned.{Planned}
-use Rattle.packetizer.proofs.Stores.{flat-length as plan-length}
-use Rattle.packetizer.proofs.Turns.{Small}
+use Rattle.packetizer.proofs.Records.{plan-length}
 
 -- ---- the OBUs of a unit: at most one a byte, each of at least one byte
-
-scan-count : (l : List ℕ) (skip at : ℕ) → length (scanFrom l skip at .obus) ≤ length l
-unfolding scanFrom
-scan-count [] skip at = omega arith
-scan-count (b ∷ l) (suc skip) at = omega (arith, scan-count l skip (at + 1))
-scan-count (b ∷ l) zero at = go (frontOf (b ∷ l)) (λ n. scan-count l (n - 1) (at + 1))
-  where
-    go : (s : Seen) → ((n : ℕ) → length (scanFrom l (n - 1) (at + 1) .obus) ≤ length l) → length (followed at s (λ n. scanFrom l (n - 1) (at + 1)) .obus) ≤ suc (length l)
-    go (found f) h = omega (arith, h (spanOf f))
-    go (stopped n) h = omega arith
 
 keep-count : (test : Placed → Bool) (l : List Placed) → length (keep test l) ≤ length l
 unfolding keep
@@ -45,12 +37,9 @@ keep-count test (p ∷ l) =
     (λ t. omega (arith, keep-count test l))
 
 pub kept-count : (unit : List ℕ) → length (keptOf unit) ≤ length unit
-kept-count unit = omega (arith, keep-count isKept (scanOf unit .obus), scan-count unit 0 0)
+kept-count unit = omega (arith, keep-count isKept (scanOf unit .items), stream-count obuNext ended unit 0)
 
-abbrev sizesIn-of : List Placed → List ℕ
-sizesIn-of ps = map (λ (o : Obu). o .size) (map (λ (p : Placed). p .obu) ps)
-
-small-from : (total : ℕ) (ps : List Placed) → All (Inside total) ps → total ≤ unitLimit → Small (sizesIn-of ps)
+small-from : (total : ℕ) (ps : List Placed) → All (Inside total) ps → total ≤ unitLimit → Small (sizes (map (λ (p : Placed). p .obu) ps))
 small-from total [] h t j l = absurd (omega arith)
 small-from total (p ∷ ps) h t zero l = let z = inside-size total p (h .0) in omega arith
 small-from total (p ∷ ps) h t (suc j) l = small-from total ps (h .1) t j (omega arith)
@@ -61,88 +50,101 @@ unit-small unit h = small-from (length unit) (keptOf unit) (kept-inside unit) h
 sizes-count : (unit : List ℕ) → length (sizesOf unit) ≡ length (keptOf unit)
 sizes-count unit = length-map (obusOf unit) (λ (o : Obu). o .size) ∙ length-map (keptOf unit) (λ (p : Placed). p .obu)
 
--- ---- what the list call says where it answers with a count
+-- ---- what the list call says of a unit that it lists
 
-pub given-kept : (unit : List ℕ) (space n : ℕ) → given n ≡ listed space unit → (length unit ≤ unitLimit) × (n ≡ length (keptOf unit)) × (n ≤ space)
+pub given-kept : (unit : List ℕ) (space : ℕ) (l : Listed) → given l ≡ listed space unit → (length unit ≤ unitLimit) × (l ≡ listedOf unit) × (length (keptOf unit) ≤ space)
 unfolding listed
-given-kept unit space n e = go (ltb unitLimit (length unit)) refl (ltb space (length (keptOf unit))) refl (scanOf unit .stop) e
+given-kept unit space l e = go (ltb unitLimit (length unit)) refl (ltb space (length (keptOf unit))) refl (scanOf unit .stop) e
   where
-    go : (t : Bool) → ltb unitLimit (length unit) ≡ t → (u : Bool) → ltb space (length (keptOf unit)) ≡ u → (s : Stop)
-        → given n ≡ cond t (refused 2 0) (cond u (refused 8 (getD (map (λ (p : Placed). p .at) (keptOf unit)) space 0)) (atStop s (length (keptOf unit))))
-        → (length unit ≤ unitLimit) × (n ≡ length (keptOf unit)) × (n ≤ space)
+    go : (t : Bool) → ltb unitLimit (length unit) ≡ t → (u : Bool) → ltb space (length (keptOf unit)) ≡ u → (s : ScanEnd)
+        → given l ≡ cond t (refused 2 0) (cond u (refused 8 (getD (map (λ (p : Placed). p .at) (keptOf unit)) space 0)) (atStop s (listedOf unit)))
+        → (length unit ≤ unitLimit) × (l ≡ listedOf unit) × (length (keptOf unit) ≤ space)
     go true t u v s e = let z : _≡_ {A = ℕ} 0 1 = cc in absurd (omega arith)
     go false t true v s e = let z : _≡_ {A = ℕ} 0 1 = cc in absurd (omega arith)
     go false t false v (refusedBy k at) e = let z : _≡_ {A = ℕ} 0 1 = cc in absurd (omega arith)
     go false t false v ended e =
-        let q : n ≡ length (keptOf unit) = cc in
-        (ltb-false unitLimit (length unit) t, q, omega (arith, ltb-false space (length (keptOf unit)) v))
+        let q : l ≡ listedOf unit = cc in
+        (ltb-false unitLimit (length unit) t, q, ltb-false space (length (keptOf unit)) v)
 
 -- ---- the OBU list, read back
 
-sizes-flat : (os : List Obu) (rest : List ℕ) → sizesIn (length os) (flat os ++ rest) ≡ map (λ (o : Obu). o .size) os
-unfolding sizesIn flatMap
-sizes-flat [] rest = refl
-sizes-flat (o ∷ os) rest = ap (λ (l : List ℕ). o .size ∷ l) (sizes-flat os rest)
+sizes-back : (os : List Obu) → sizes (map readBack os) ≡ sizes os
+sizes-back [] = refl
+sizes-back (o ∷ os) = ap (λ (l : List ℕ). o .size ∷ l) (sizes-back os)
 
-module _ (unit obus obus′ : List ℕ) (n : ℕ) (e : given n ≡ listAnswer unit obus) (f : obus′ ≡ listAfter unit obus) where
-  kept : (length unit ≤ unitLimit) × (n ≡ length (keptOf unit)) × (n ≤ length obus / obuNumbers)
-  kept = given-kept unit (length obus / obuNumbers) n e
+-- the list call lists the unit, and leaves the list so
+pub record Filled (unit obus obus′ : List ℕ) (l : Listed) : Type 0 where
+  pub answer : given l ≡ listAnswer unit obus
+  pub after : obus′ ≡ listAfter unit obus
 
-  records : n ≡ length (obusOf unit)
-  records = kept .1 ∙ sym (length-map (keptOf unit) (λ (p : Placed). p .obu))
+module _ {unit obus obus′ : List ℕ} {g : Listed} (f : Filled unit obus obus′ g) where
+  kept : (length unit ≤ unitLimit) × (g ≡ listedOf unit) × (length (keptOf unit) ≤ length obus / obuNumbers)
+  kept = given-kept unit (length obus / obuNumbers) g (f .answer)
+
+  counted : g .obus ≡ length (keptOf unit)
+  counted = ap (λ (l : Listed). l .obus) (kept .1)
+
+  records : g .obus ≡ length (obusOf unit)
+  records = counted ∙ sym (length-map (keptOf unit) (λ (p : Placed). p .obu))
 
   filled : obus′ ≡ front (flat (obusOf unit)) obus
-  filled = f ∙ ap (λ (a : Answer ℕ). stored a (flat (obusOf unit)) obus) (sym e)
+  filled = f .after ∙ ap (λ (a : Answer Listed). stored a (flat (obusOf unit)) obus) (sym (f .answer))
 
-  pub list-sizes : sizesIn n obus′ ≡ sizesOf unit
-  list-sizes = ap₂ sizesIn records filled ∙ sizes-flat (obusOf unit) (drop (length (flat (obusOf unit))) obus)
+  -- the part of the list that holds the records
+  pub list-long : g .obus * obuNumbers ≤ length obus
+  list-long = omega (arith, kept .2, counted)
 
-  pub list-small : Small (sizesIn n obus′)
-  list-small = subst Small (sym list-sizes) (unit-small unit (kept .0))
+  list-is : take (g .obus * obuNumbers) obus′ ≡ flat (obusOf unit)
+  list-is = ap₂ (λ (m : ℕ) (l : List ℕ). take (m * obuNumbers) l) records filled ∙ obus-part (obusOf unit) obus
 
-  pub list-long : (n * obuNumbers ≤ length obus′) × (n ≤ unitLimit)
-  list-long =
-      let k : length obus′ ≡ length (flat (obusOf unit)) + length (drop (length (flat (obusOf unit))) obus) = ap length filled ∙ length-append (flat (obusOf unit)) (drop (length (flat (obusOf unit))) obus) in
-      omega (arith, kept, kept-count unit, flat-length (obusOf unit), records)
+  pub list-sizes : sizes (obusIn (take (g .obus * obuNumbers) obus′)) ≡ sizesOf unit
+  list-sizes = ap (λ (l : List ℕ). sizes (obusIn l)) list-is ∙ ap sizes (obus-flat (obusOf unit)) ∙ sizes-back (obusOf unit)
 
--- ---- the outcomes: the answer, and the two lists afterwards
+  pub list-plannable : {mtu : ℕ} (store : Bool) {plan : List ℕ} → mtu ≤ mtuLimit → (store ≡ true → length (unitPlan mtu unit) * planNumbers ≤ length plan)
+      → Plannable mtu (sizes (obusIn (take (g .obus * obuNumbers) obus′))) store plan
+  list-plannable store m r =
+      rw list-sizes (record { most = m; few = omega (arith, sizes-count unit, kept .0, kept-count unit); small = unit-small unit (kept .0); room = r })
+
+-- ---- the outcomes
 
 module _ (mtu : ℕ) (unit obus plan : List ℕ) where
-  abbrev pub Outcome : Answer Planned → List ℕ → List ℕ → Type 0
-  Outcome r obus′ plan′ = (r ≡ planAnswer mtu unit obus plan) × (obus′ ≡ obusAfter mtu unit obus) × (plan′ ≡ planAfter mtu unit obus plan)
+  abbrev i : Inputs
+  i = toPlan mtu unit obus plan
 
-  pub outcome-1 : mtuLimit < mtu → Outcome (refused 1 0) obus plan
+  pub outcome-1 : mtuLimit < mtu → leaves (refused 1 0) obus plan ≡ planUnit i
   unfolding planAnswer
-  outcome-1 h = rw (lt-ltb mtuLimit mtu h) (refl, refl, refl)
+  outcome-1 h = rw (lt-ltb mtuLimit mtu h)
 
   module _ (m : mtu ≤ mtuLimit) (obus′ : List ℕ) (f : obus′ ≡ listAfter unit obus) where
-    obus-after : obus′ ≡ obusAfter mtu unit obus
+    obus-after : obus′ ≡ planUnit i .obus
     obus-after = rw (le-ltb mtuLimit mtu m) f
 
-    answered : (a : Answer ℕ) → a ≡ listAnswer unit obus → planned (unitPlan mtu unit) (length plan / planNumbers) a ≡ planAnswer mtu unit obus plan
+    answered : (a : Answer Listed) → a ≡ listAnswer unit obus → planned (unitPlan mtu unit) (length plan / planNumbers) a ≡ planAnswer i
     unfolding planAnswer
     answered a e = rw (le-ltb mtuLimit mtu m, e)
 
-    outcome : (r : Answer Planned) (plan′ : List ℕ) → r ≡ planAnswer mtu unit obus plan → plan′ ≡ stored r (flatPlan (unitPlan mtu unit)) plan → Outcome r obus′ plan′
-    outcome r plan′ e s = (e, obus-after, s ∙ ap (λ (a : Answer Planned). stored a (flatPlan (unitPlan mtu unit)) plan) e)
+    outcome : (r : Answer Planned) (plan′ : List ℕ) → r ≡ planAnswer i → plan′ ≡ stored r (flatPlan (unitPlan mtu unit)) plan → leaves r obus′ plan′ ≡ planUnit i
+    outcome r plan′ e s =
+        let t : plan′ ≡ planUnit i .plan = s ∙ ap (λ (a : Answer Planned). stored a (flatPlan (unitPlan mtu unit)) plan) e in
+        λ j. leaves (e j) (obus-after j) (t j)
 
-    pub outcome-listed : (k at : ℕ) → refused k at ≡ listAnswer unit obus → Outcome (refused k at) obus′ plan
+    pub outcome-listed : (k at : ℕ) → refused k at ≡ listAnswer unit obus → leaves (refused k at) obus′ plan ≡ planUnit i
     outcome-listed k at e = outcome (refused k at) plan (answered (refused k at) e) refl
 
-    pub outcome-9 : (n packets : ℕ) → given n ≡ listAnswer unit obus → packets ≡ length (unitPlan mtu unit) → length plan / planNumbers < packets
-        → Outcome (refused 9 0) obus′ plan
-    outcome-9 n packets e p h =
-        outcome (refused 9 0) plan
-        (sym (ap (λ (t : Bool). cond t (refused 9 0) (given (record { obus = n; packets = length (unitPlan mtu unit) }))) (lt-ltb (length plan / planNumbers) (length (unitPlan mtu unit)) (omega arith)))
-        ∙ answered (given n) e)
-        refl
+    module _ (l : Listed) (packets : ℕ) (plan′ : List ℕ) (e : given l ≡ listAnswer unit obus) (p : packets ≡ length (unitPlan mtu unit)) where
+      -- by whether there is space for the plan
+      fits : (t : Bool) → ltb (length plan / planNumbers) (length (unitPlan mtu unit)) ≡ t
+          → cond t (refused 9 0) (given (record { obus = l .obus; packets = packets })) ≡ planAnswer i
+      fits t h =
+          ap₂ (λ (n : ℕ) (u : Bool). cond u (refused 9 0) (given (record { obus = l .obus; packets = n }))) p (sym h) ∙ answered (given l) e
 
-    pub outcome-all : (n packets : ℕ) (plan′ : List ℕ) → given n ≡ listAnswer unit obus → packets ≡ length (unitPlan mtu unit) → packets ≤ length plan / planNumbers
-        → plan′ ≡ recorded true plan 0 (unitPlan mtu unit) → Outcome (given (record { obus = n; packets = packets })) obus′ plan′
-    outcome-all n packets plan′ e p h s =
-        let q : length (flatPlan (unitPlan mtu unit)) ≡ length (unitPlan mtu unit) * planNumbers = plan-length (unitPlan mtu unit) in
-        outcome (given (record { obus = n; packets = packets })) plan′
-        (ap (λ (x : ℕ). given (record { obus = n; packets = x })) p
-        ∙ sym (ap (λ (t : Bool). cond t (refused 9 0) (given (record { obus = n; packets = length (unitPlan mtu unit) }))) (le-ltb (length plan / planNumbers) (length (unitPlan mtu unit)) (omega arith)))
-        ∙ answered (given n) e)
-        (s ∙ front-sets [] (flatPlan (unitPlan mtu unit)) plan 0 refl (omega arith))
+      pub outcome-9 : length plan / planNumbers < packets → plan′ ≡ plan → leaves (refused 9 0) obus′ plan′ ≡ planUnit i
+      outcome-9 h s = outcome (refused 9 0) plan′ (fits true (lt-ltb (length plan / planNumbers) (length (unitPlan mtu unit)) (omega arith))) s
+
+      pub outcome-all : packets ≤ length plan / planNumbers → plan′ ≡ recorded true plan 0 (unitPlan mtu unit)
+          → leaves (given (record { obus = l .obus; packets = packets })) obus′ plan′ ≡ planUnit i
+      outcome-all h s =
+          let q : length (flatPlan (unitPlan mtu unit)) ≡ length (unitPlan mtu unit) * planNumbers = plan-length (unitPlan mtu unit) in
+          outcome (given (record { obus = l .obus; packets = packets })) plan′
+          (fits false (le-ltb (length plan / planNumbers) (length (unitPlan mtu unit)) (omega arith)))
+          (s ∙ front-sets [] (flatPlan (unitPlan mtu unit)) plan 0 refl (omega arith))

@@ -10,7 +10,7 @@ use lib.Dec.{ltb, leb, eqb}
 use borrow.Author.Tests.{ltb-true, ltb-false, leb-true, leb-false, eqb-true, eqb-false, lt-ltb}
 use Rattle.base.proofs.Tests.{by-cond, split-on}
 use Rattle.packetizer.specs.Fragment.{fieldSize, largestFragment}
-use Rattle.packetizer.specs.Plan.{mostCounted, newPacket, leftIn, chargeOf, isFourth, isFull, charged, needOf, withElement, fragmentOf, alone, Placed, closing, spread, insert, place}
+use Rattle.packetizer.specs.Plan.{mostCounted, newPacket, leftIn, chargeOf, fourthOrLater, isFull, charged, needOf, withElement, fragmentOf, alone, Placing, closing, spread, insert, place}
 use Rattle.packetizer.specs.Elements.{element, elementsFrom, elementsOf, elementBytes, fieldBytes, bodySize}
 use Rattle.packetizer.specs.Laws.{position, startsAt, endsAt, Sound, startOf}
 use Rattle.packetizer.specs.declared.PacketMetadata.{PacketMetadata}
@@ -22,9 +22,9 @@ use Rattle.packetizer.proofs.Runs.{Ends, Leads, ends-at, ends-sound, al
 
 -- ---- the first fragment fits with its length field
 
-module _ (room : ℕ) (q : PacketMetadata) (s : ℕ) (free : cond (isFourth q) 2 1 ≤ leftIn room q) where
+module _ (room : ℕ) (q : PacketMetadata) (s : ℕ) (free : cond (fourthOrLater q) 2 1 ≤ leftIn room q) where
   pub fragment-fits : needOf q (fragmentOf room q s) ≤ leftIn room q
-  fragment-fits = go (isFourth q) refl free
+  fragment-fits = go (fourthOrLater q) refl free
     where
       go : (t : Bool) → leb mostCounted (q .«num_obu_elements») ≡ t → cond t 2 1 ≤ leftIn room q → needOf q (fragmentOf room q s) ≤ leftIn room q
       go true t h =
@@ -38,7 +38,7 @@ module _ (room : ℕ) (q : PacketMetadata) (s : ℕ) (free : cond (isFourth q) 2
 
   -- P11: only an OBU of one byte is taken out again
   pub taken-out-one : 1 ≤ s → fragmentOf room q s ≡ 0 → s ≡ 1
-  taken-out-one o z = go (isFourth q) refl free
+  taken-out-one o z = go (fourthOrLater q) refl free
     where
       go : (t : Bool) → leb mostCounted (q .«num_obu_elements») ≡ t → cond t 2 1 ≤ leftIn room q → s ≡ 1
       go true t h =
@@ -50,7 +50,7 @@ module _ (room : ℕ) (q : PacketMetadata) (s : ℕ) (free : cond (isFourth q) 2
           omega (arith, fragment-few q room s m)
 
 module _ (room : ℕ) (sizes : List ℕ) (large : 2 ≤ room) where
-  closing-leads : (i : ℕ) (p : PacketMetadata) (x : Placed) → Sound room sizes p → Leads room sizes (endsAt sizes p) i x → Leads room sizes (startsAt p) i (closing p x)
+  closing-leads : (i : ℕ) (p : PacketMetadata) (x : Placing) → Sound room sizes p → Leads room sizes (endsAt sizes p) i x → Leads room sizes (startsAt p) i (closing p x)
   closing-leads i p x s h = ((refl, s, h .0), h .1)
 
   -- ---- P9, P10
@@ -155,9 +155,9 @@ module _ (room : ℕ) (sizes : List ℕ) (large : 2 ≤ room) where
         rw (e, w .start, zero-add n, lt-ltb n (getD sizes i 0) h)
 
     -- the packet is not full: the charge and a byte, or two, fit
-    module _ (some : 1 ≤ getD sizes i 0) (free : chargeOf p + cond (isFourth p) 2 1 ≤ leftIn room p) where
-      one-free : 1 ≤ cond (isFourth p) 2 1
-      one-free = by-cond (λ (x : ℕ). 1 ≤ x) (isFourth p) 2 1 (λ t. omega arith) (λ t. omega arith)
+    module _ (some : 1 ≤ getD sizes i 0) (free : chargeOf p + cond (fourthOrLater p) 2 1 ≤ leftIn room p) where
+      one-free : 1 ≤ cond (fourthOrLater p) 2 1
+      one-free = by-cond (λ (x : ℕ). 1 ≤ x) (fourthOrLater p) 2 1 (λ t. omega arith) (λ t. omega arith)
 
       whole-leads : needOf (charged p) (getD sizes i 0) < leftIn room (charged p) → Leads room sizes (startsAt p) (i + 1) (insert room i (getD sizes i 0) p)
       whole-leads h = rw (insert-whole room i (getD sizes i 0) p (charged p) refl h) (refl, put-ends some (omega (arith, one-free)))

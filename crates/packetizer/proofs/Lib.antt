@@ -2,6 +2,7 @@
 pub mod Rows
 pub mod Fragments
 pub mod Steps
+pub mod Records
 pub mod Stores
 pub mod Spreading
 pub mod Placing

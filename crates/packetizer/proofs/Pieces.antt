@@ -10,11 +10,11 @@ use lib.ListN.{length, getD, take, drop, length-map, take-append-drop, drop-of-l
 use lib.Seq.{drop-cons, drop-append-le, drop-drop, drop-at}
 use lib.Dec.{ltb}
 use borrow.Author.Tests.{ltb-true, ltb-false, le-ltb}
-use Rattle.base.specs.Lists.{All}
+use Rattle.base.specs.Lists.{All, joined}
 use Rattle.base.proofs.Tests.{by-cond, split-on}
 use Rattle.packetizer.specs.Plan.{leastMtu, newPacket, planOf}
 use Rattle.packetizer.specs.Elements.{Element, element, elementsFrom, elementsOf}
-use Rattle.packetizer.specs.Laws.{Position, position, startsAt, endOf, endsAt, Sound, Runs, startOf, Positive, EndsObu, partOf, joined}
+use Rattle.packetizer.specs.Laws.{Position, position, startsAt, endOf, endsAt, Sound, Runs, startOf, Positive, EndsObu, partOf}
 use Rattle.packetizer.specs.declared.PacketMetadata.{PacketMetadata}
 use Rattle.packetizer.proofs.Bodies.{start-zero, start-more, elements-step, elements-one, elements-count}
 use Rattle.packetizer.proofs.Laws.{plan-runs, plan-sound}

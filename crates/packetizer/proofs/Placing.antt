@@ -7,7 +7,7 @@ use mathlib.Core.List.{List, [], _∷_}
 use lib.ListN.{length}
 use borrow.Author.Tests.{lt-ltb, le-ltb, ltb-false}
 use Rattle.base.proofs.Tests.{by-cond}
-use Rattle.packetizer.specs.Plan.{newPacket, leftIn, chargeOf, isFourth, isFull, charged, needOf, withElement, fragmentOf, Placed, filling, closing, cutAt, putIn, spread, insert, place}
+use Rattle.packetizer.specs.Plan.{newPacket, leftIn, chargeOf, fourthOrLater, isFull, charged, needOf, withElement, fragmentOf, Placing, filling, closing, cutAt, putIn, spread, insert, place}
 use Rattle.packetizer.specs.Paper.{recorded}
 use Rattle.packetizer.specs.declared.PacketMetadata.{PacketMetadata}
 use Rattle.packetizer.proofs.Stores.{recorded-append}
@@ -39,14 +39,14 @@ module _ (room i s : ℕ) (p : PacketMetadata) where
 
 module _ (room : ℕ) (p : PacketMetadata) where
   -- a packet that is not full has room for the charge and a byte, or two
-  pub not-full : isFull room p ≡ false → chargeOf p + cond (isFourth p) 2 1 ≤ leftIn room p
+  pub not-full : isFull room p ≡ false → chargeOf p + cond (fourthOrLater p) 2 1 ≤ leftIn room p
   unfolding isFull
-  not-full h = ltb-false (leftIn room p) (chargeOf p + cond (isFourth p) 2 1) h
+  not-full h = ltb-false (leftIn room p) (chargeOf p + cond (fourthOrLater p) 2 1) h
 
   pub one-more : isFull room p ≡ false → p .«packet_size» + chargeOf p + 1 ≤ room
   one-more h =
-      let l : chargeOf p + cond (isFourth p) 2 1 ≤ leftIn room p = not-full h in
-      omega (arith, by-cond (λ (x : ℕ). 1 ≤ x) (isFourth p) 2 1 (λ t. omega arith) (λ t. omega arith))
+      let l : chargeOf p + cond (fourthOrLater p) 2 1 ≤ leftIn room p = not-full h in
+      omega (arith, by-cond (λ (x : ℕ). 1 ≤ x) (fourthOrLater p) 2 1 (λ t. omega arith) (λ t. omega arith))
 
   pub fragment-below : (s : ℕ) → fragmentOf room p s ≤ s - 1
   unfolding fragmentOf
@@ -58,18 +58,18 @@ new-free i room h = le-ltb (room - 0) 1 (omega arith)
 
 -- ---- a packet that is closed, and what comes after it
 
-module _ (store : Bool) (l : List ℕ) (n : ℕ) (p : PacketMetadata) (x y : Placed) (e : x ≡ closing p y) where
+module _ (store : Bool) (l : List ℕ) (n : ℕ) (p : PacketMetadata) (x y : Placing) (e : x ≡ closing p y) where
   pub closing-count : n + length (x .closed) ≡ n + 1 + length (y .closed)
-  closing-count = ap (λ (z : Placed). n + length (z .closed)) e ∙ omega arith
+  closing-count = ap (λ (z : Placing). n + length (z .closed)) e ∙ omega arith
 
   pub closing-stored : (l₁ l₂ : List ℕ) (m : ℕ) (r : PacketMetadata) → l₁ ≡ recorded store l n (p ∷ [])
       → (r ≡ y .current) × (m ≡ n + 1 + length (y .closed)) × (l₂ ≡ recorded store l₁ (n + 1) (y .closed))
       → (r ≡ x .current) × (m ≡ n + length (x .closed)) × (l₂ ≡ recorded store l n (x .closed))
   closing-stored l₁ l₂ m r a h = (
-    h .0 ∙ sym (ap (λ (z : Placed). z .current) e),
+    h .0 ∙ sym (ap (λ (z : Placing). z .current) e),
     h .1 ∙ sym closing-count,
     h .2
         ∙ ap (λ (k : List ℕ). recorded store k (n + 1) (y .closed)) a
         ∙ recorded-append store l n (p ∷ []) (y .closed)
-        ∙ sym (ap (λ (z : Placed). recorded store l n (z .closed)) e),
+        ∙ sym (ap (λ (z : Placing). recorded store l n (z .closed)) e),
   )

@@ -4,13 +4,15 @@ use Prim.Native.Nat.{ℕ}
 use mathlib.Core.List.{List, [], _∷_, map, flatMap}
 use Rattle.base.specs.Answers.{Answer, given, refused}
 use Rattle.base.specs.Lists.{keep}
+use Rattle.base.specs.Streams.{streamFrom}
 use Rattle.leb128.specs.Field.{encodeIn, fieldIn}
 use Rattle.obu.specs.Front.{frontOf, headed}
-use Rattle.obu.specs.Unit.{scanFrom, listed}
-use Rattle.packetizer.specs.Call.{planAnswer, obusAfter, planAfter}
+use Rattle.obu.specs.Unit.{listed}
+use Rattle.packetizer.specs.Call.{toPlan, planAnswer, planUnit}
 use Rattle.packetizer.specs.declared.Planned.{Planned}
 use Rattle.packetizer.specs.Fragment.{largestFragment}
-use Rattle.packetizer.specs.Plan.{chargeOf, isFull, needOf, fragmentOf, spread, insert, place, planFrom, planOf, flatPlan}
+use Rattle.packetizer.specs.Plan.{chargeOf, isFull, needOf, fragmentOf, spread, insert, place, planFrom, planOf}
+use Rattle.packetizer.specs.Records.{flatPlan}
 
 largest :
     map largestFragment (0 ∷ 1 ∷ 2 ∷ 128 ∷ 129 ∷ 130 ∷ 16385 ∷ 16386 ∷ 16387 ∷ [])
@@ -94,7 +96,7 @@ planned : ℕ → ℕ → Answer Planned
 planned n m = given (record { obus = n; packets = m })
 
 answers :
-    map (λ (c : Call). planAnswer (c .mtu) (c .unit) lists lists) calls
+    map (λ (c : Call). planAnswer (toPlan (c .mtu) (c .unit) lists lists)) calls
     ≡ planned 0 0
     ∷ planned 1 0
     ∷ planned 1 2
@@ -111,16 +113,16 @@ answers :
     ∷ refused 8 4
     ∷ refused 9 0
     ∷ []
-unfolding lists calls planned planAnswer largestFragment chargeOf isFull needOf fragmentOf spread insert place planFrom planOf encodeIn listed scanFrom frontOf headed fieldIn keep
+unfolding lists calls planned planAnswer largestFragment chargeOf isFull needOf fragmentOf spread insert place planFrom planOf encodeIn listed streamFrom frontOf headed fieldIn keep
 answers = refl
 
 -- what refusal 9 leaves: the OBU list filled, the plan list as it was
 after-9 :
-    obusAfter 3 (0x32 ∷ 4 ∷ 1 ∷ 2 ∷ 3 ∷ 4 ∷ []) lists
+    planUnit (toPlan 3 (0x32 ∷ 4 ∷ 1 ∷ 2 ∷ 3 ∷ 4 ∷ []) lists lists) .obus
     ≡ 0x32 ∷ 0 ∷ 2 ∷ 4 ∷ 5 ∷ 9 ∷ 9 ∷ 9 ∷ 9 ∷ 9 ∷ 9 ∷ []
-unfolding lists encodeIn listed scanFrom frontOf headed fieldIn keep flatMap
+unfolding lists encodeIn listed streamFrom frontOf headed fieldIn keep flatMap
 after-9 = refl
 
-plan-9 : planAfter 3 (0x32 ∷ 4 ∷ 1 ∷ 2 ∷ 3 ∷ 4 ∷ []) lists lists ≡ lists
-unfolding lists planAnswer largestFragment chargeOf isFull needOf fragmentOf spread insert place planFrom planOf encodeIn listed scanFrom frontOf headed fieldIn keep flatMap
+plan-9 : planUnit (toPlan 3 (0x32 ∷ 4 ∷ 1 ∷ 2 ∷ 3 ∷ 4 ∷ []) lists lists) .plan ≡ lists
+unfolding lists planAnswer largestFragment chargeOf isFull needOf fragmentOf spread insert place planFrom planOf encodeIn listed streamFrom frontOf headed fieldIn keep flatMap
 plan-9 = refl

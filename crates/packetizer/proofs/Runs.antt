@@ -5,7 +5,7 @@ use native.Mathlib.Omega.{arith}
 use mathlib.Core.List.{List, [], _∷_, _++_}
 use lib.ListN.{length, getD}
 use borrow.Author.Tests.{lt-ltb, le-ltb}
-use Rattle.packetizer.specs.Plan.{alone, Placed}
+use Rattle.packetizer.specs.Plan.{alone, Placing}
 use Rattle.packetizer.specs.Elements.{elementsOf, elementBytes, fieldBytes, bodySize}
 use Rattle.packetizer.specs.Laws.{Position, position, startsAt, endsAt, Sound, Runs, startOf}
 use Rattle.packetizer.specs.declared.PacketMetadata.{PacketMetadata}
@@ -23,7 +23,7 @@ pub record Ends (room : ℕ) (sizes : List ℕ) (i : ℕ) (p : PacketMetadata) :
   pub fits : p .«packet_size» ≤ room
 
 -- what an OBU closes leads from a position to the current packet, which ends with the OBU before i
-abbrev pub Leads : ℕ → List ℕ → Position → ℕ → Placed → Type 0
+abbrev pub Leads : ℕ → List ℕ → Position → ℕ → Placing → Type 0
 Leads room sizes a i x = Runs room sizes a (x .closed) (startsAt (x .current)) × Ends room sizes i (x .current)
 
 module _ (room : ℕ) (sizes : List ℕ) where

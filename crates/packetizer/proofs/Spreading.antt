@@ -7,7 +7,7 @@ use mathlib.Core.Bool.{Bool}
 use mathlib.Core.List.{List, [], _∷_, _++_, append-assoc, append-nil}
 use lib.ListN.{length, length-append}
 use borrow.Author.Tests.{lt-ltb, le-ltb}
-use Rattle.packetizer.specs.Plan.{alone, Placed, filling, closing, spread}
+use Rattle.packetizer.specs.Plan.{alone, Placing, filling, closing, spread}
 use Rattle.packetizer.specs.Paper.{recorded}
 use Rattle.packetizer.specs.declared.PacketMetadata.{PacketMetadata}
 use Rattle.packetizer.proofs.Stores.{recorded-none, recorded-append}
@@ -51,7 +51,7 @@ spreading-first store room i s from records l h =
 
 module _ (store : Bool) (room i s from records : ℕ) (l₀ l : List ℕ) (n o : ℕ) (w : Spreading store room i s from records l₀ l n o) where
   next-closed : room < s - o → spread s room i s from .closed ≡ w .done ++ (alone i o room ∷ spread (w .most - 1) room i s (o + room) .closed)
-  next-closed h = w .closed ∙ ap (λ (x : Placed). w .done ++ x .closed) (spread-more (w .most) room i s o (omega arith) h)
+  next-closed h = w .closed ∙ ap (λ (x : Placing). w .done ++ x .closed) (spread-more (w .most) room i s o (omega arith) h)
 
   -- the record that is stored next is one of the plan's
   pub spreading-room : room < s - o → n + 1 ≤ records + length (spread s room i s from .closed)
@@ -71,7 +71,7 @@ module _ (store : Bool) (room i s from records : ℕ) (l₀ l : List ℕ) (n o :
         counted = omega (arith, length-append (w .done) a);
         kept = k ∙ w .kept;
         closed = next-closed h ∙ sym (append-assoc (w .done) a (spread (w .most - 1) room i s (o + room) .closed));
-        current = w .current ∙ ap (λ (x : Placed). x .current) (spread-more (w .most) room i s o (omega arith) h);
+        current = w .current ∙ ap (λ (x : Placing). x .current) (spread-more (w .most) room i s o (omega arith) h);
         wrote =
             e
             ∙ ap₂ (λ (x : List ℕ) (m : ℕ). recorded store x m a) (w .wrote) (w .counted)
@@ -81,6 +81,6 @@ module _ (store : Bool) (room i s from records : ℕ) (l₀ l : List ℕ) (n o :
   pub spreading-end : s - o ≤ room → (spread s room i s from .closed ≡ w .done) × (spread s room i s from .current ≡ alone i o (s - o))
   spreading-end h =
       let e : spread (w .most) room i s o ≡ filling (alone i o (s - o)) = spread-last (w .most) room i s o h in (
-        w .closed ∙ ap (λ (x : Placed). w .done ++ x .closed) e ∙ append-nil (w .done),
-        w .current ∙ ap (λ (x : Placed). x .current) e,
+        w .closed ∙ ap (λ (x : Placing). w .done ++ x .closed) e ∙ append-nil (w .done),
+        w .current ∙ ap (λ (x : Placing). x .current) e,
       )

@@ -7,7 +7,7 @@ use lib.Dec.{ltb, eqb}
 use borrow.Author.Tests.{lt-ltb, le-ltb, le-leb, lt-leb, eq-eqb, ne-eqb, leb-true, leb-false}
 use Rattle.base.proofs.Tests.{by-cond, split-on}
 use Rattle.packetizer.specs.Fragment.{fieldSize, largestFragment, Largest}
-use Rattle.packetizer.specs.Plan.{mostCounted, leftIn, chargeOf, isFourth, isFull, needOf, fragmentOf}
+use Rattle.packetizer.specs.Plan.{mostCounted, leftIn, chargeOf, fourthOrLater, isFull, needOf, fragmentOf}
 use Rattle.packetizer.specs.declared.PacketMetadata.{PacketMetadata}
 use Rattle.packetizer.proofs.Fragments.{field-most, largest-one, largest-is}
 
@@ -52,7 +52,7 @@ module _ (p : PacketMetadata) where
 
   pub need-bounds : (n : ℕ) → (n ≤ needOf p n) × (needOf p n ≤ n + 5)
   need-bounds n =
-      split-on (isFourth p)
+      split-on (fourthOrLater p)
       (λ t. omega (arith, need-fourth n (leb-true mostCounted (p .«num_obu_elements») t), field-most n))
       (λ t. omega (arith, need-few n (leb-false mostCounted (p .«num_obu_elements») t)))
 

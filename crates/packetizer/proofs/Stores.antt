@@ -6,13 +6,11 @@ use mathlib.Core.Bool.{Bool, true, false}
 use mathlib.Core.List.{List, [], _++_, flatMap}
 use lib.ListN.{length}
 use lib.Seq.{sets}
-use Rattle.base.proofs.Lists.{sets-append, flatMap-append, flatMap-length}
-use Rattle.packetizer.specs.Plan.{planNumbers, recordNumbers, flatPlan}
+use Rattle.base.proofs.Lists.{sets-append, flatMap-append}
 use Rattle.packetizer.specs.Paper.{recorded}
+use Rattle.packetizer.specs.Records.{planNumbers, recordNumbers, flatPlan}
 use Rattle.packetizer.specs.declared.PacketMetadata.{PacketMetadata}
-
-pub flat-length : (ps : List PacketMetadata) → length (flatPlan ps) ≡ length ps * planNumbers
-flat-length ps = flatMap-length recordNumbers planNumbers (λ p. refl) ps
+use Rattle.packetizer.proofs.Records.{plan-length}
 
 module _ (store : Bool) (l : List ℕ) (n : ℕ) where
   pub recorded-none : l ≡ recorded store l n []
@@ -27,7 +25,7 @@ module _ (store : Bool) (l : List ℕ) (n : ℕ) where
   recorded-append ps qs = go store
     where
       e : n * planNumbers + length (flatPlan ps) ≡ (n + length ps) * planNumbers
-      e = omega (arith, flat-length ps)
+      e = omega (arith, plan-length ps)
 
       go : (t : Bool) → recorded t (recorded t l n ps) (n + length ps) qs ≡ recorded t l n (ps ++ qs)
       go true = sym (ap (sets l (n * planNumbers)) (flatMap-append recordNumbers ps qs) ∙ sets-append l (n * planNumbers) (flatPlan ps) (flatPlan qs) ∙ ap (λ (j : ℕ). sets (sets l (n * planNumbers) (flatPlan ps)) j (flatPlan qs)) e)

@@ -1,16 +1,20 @@
 -- The loop over the OBUs: what it keeps, and what its turns ask. Assumes nothing.
 use mathlib.Core.Path.{_≡_, refl, sym, ap, ap₂, subst, _∙_}
-use Prim.Native.Nat.{ℕ, zero, suc, _+_, _*_, _≤_, _<_}
+use Prim.Native.Nat.{ℕ, suc, _+_, _*_, _/_, _≤_, _<_}
 use native.Mathlib.Omega.{arith}
 use mathlib.Core.Bool.{Bool}
 use mathlib.Core.Logic.{_⊎_, inl, inr, ⊎-elim}
 use mathlib.Core.List.{List, [], _∷_, _++_, append-assoc}
-use lib.ListN.{length, getD, drop, length-append}
-use lib.Seq.{getD-drop}
-use Rattle.obu.specs.Unit.{unitLimit, obuNumbers}
+use lib.ListN.{length, getD, drop, length-append, length-map, List·getD-map}
+use Rattle.obu.specs.Unit.{unitLimit}
+use Rattle.obu.specs.Records.{obuNumbers, obusIn, noObu}
+use Rattle.obu.specs.declared.Obu.{Obu}
+use Rattle.obu.proofs.Records.{obus-count}
 use Rattle.packetizer.specs.Plan.{leastMtu, newPacket, place, planFrom, planOf}
 use Rattle.packetizer.specs.Elements.{totalSize}
-use Rattle.packetizer.specs.Paper.{recorded, sizesIn}
+use Rattle.packetizer.specs.Call.{sizes}
+use Rattle.packetizer.specs.Paper.{recorded}
+use Rattle.packetizer.specs.Inside.{Small}
 use Rattle.packetizer.specs.Laws.{Positive}
 use Rattle.packetizer.specs.declared.PacketMetadata.{PacketMetadata}
 use Rattle.packetizer.proofs.Stores.{recorded-none, recorded-append}
@@ -21,18 +25,11 @@ use Rattle.packetizer.proofs.Laws.{plan-short}
 
 -- ---- the sizes in a flat list
 
-pub sizes-count : (n : ℕ) (l : List ℕ) → length (sizesIn n l) ≡ n
-unfolding sizesIn
-sizes-count zero l = refl
-sizes-count (suc n) l = ap suc (sizes-count n (drop obuNumbers l))
+pub sizes-count : (l : List ℕ) → length (sizes (obusIn l)) ≡ length l / obuNumbers
+sizes-count l = length-map (obusIn l) (λ (o : Obu). o .size) ∙ obus-count l
 
-pub sizes-at : (n : ℕ) (l : List ℕ) (j : ℕ) → j < n → getD (sizesIn n l) j 0 ≡ getD l (j * obuNumbers + 4) 0
-unfolding sizesIn
-sizes-at zero l j h = absurd (omega arith)
-sizes-at (suc n) l zero h = refl
-sizes-at (suc n) l (suc j) h =
-    let e : obuNumbers + (j * obuNumbers + 4) ≡ suc j * obuNumbers + 4 = omega arith in
-    sizes-at n (drop obuNumbers l) j (omega arith) ∙ getD-drop obuNumbers l (j * obuNumbers + 4) 0 ∙ ap (λ (k : ℕ). getD l k 0) e
+pub size-at : (os : List Obu) (i : ℕ) → getD (sizes os) i 0 ≡ getD os i noObu .size
+size-at os i = List·getD-map (λ (o : Obu). o .size) os i noObu
 
 -- ---- how many records there can be
 
@@ -47,10 +44,6 @@ plan-pos room i [] p = omega arith
 plan-pos room i (s ∷ ss) p =
     let x = place room i s p in
     omega (arith, length-append (x .closed) (planFrom room (i + 1) ss (x .current)), plan-pos room (i + 1) ss (x .current))
-
--- what the code knows of the sizes
-abbrev pub Small : List ℕ → Type 0
-Small sizes = (j : ℕ) → j < length sizes → (1 ≤ getD sizes j 0) × (getD sizes j 0 ≤ unitLimit)
 
 pub small-positive : (sizes : List ℕ) → Small sizes → Positive sizes
 small-positive sizes h j l = h j l .0
@@ -109,13 +102,12 @@ module _ (store : Bool) (room : ℕ) (sizes l₀ l : List ℕ) (p : PacketMetada
       let y = planFrom room (i + 1) (drop (i + 1) sizes) (x .current) in
       omega (arith, ap length (next-whole h), length-append (w .done) (x .closed ++ y), length-append (x .closed) y, plan-pos room (i + 1) (drop (i + 1) sizes) (x .current), w .counted)
 
-  pub placing-next : (l′ : List ℕ) (q : PacketMetadata) (m : ℕ) → 2 ≤ room → Positive sizes → i < length sizes → length l′ ≡ length l
-      → (q ≡ place room i (getD sizes i 0) p .current)
-      × (m ≡ n + length (place room i (getD sizes i 0) p .closed))
-      × (l′ ≡ recorded store l n (place room i (getD sizes i 0) p .closed))
+  pub placing-next : (l′ : List ℕ) (q : PacketMetadata) (m z : ℕ) → z ≡ getD sizes i 0 → 2 ≤ room → Positive sizes → i < length sizes → length l′ ≡ length l
+      → (q ≡ place room i z p .current) × (m ≡ n + length (place room i z p .closed)) × (l′ ≡ recorded store l n (place room i z p .closed))
       → Placing store room sizes l₀ l′ q m (i + 1)
-  placing-next l′ q m g s h k e =
+  placing-next l′ q m z is g s h k t =
       let x = place room i (getD sizes i 0) p in
+      let e = rw is at t in
       record {
         done = w .done ++ x .closed;
         inside = omega arith;

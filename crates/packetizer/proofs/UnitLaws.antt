@@ -6,7 +6,7 @@ use Prim.Native.Nat.{ℕ, zero, suc, _≤_}
 use native.Mathlib.Omega.{arith}
 use mathlib.Core.List.{List, [], _∷_, map, flatMap}
 use lib.ListN.{length}
-use Rattle.base.specs.Lists.{All}
+use Rattle.base.specs.Lists.{All, joined}
 use Rattle.obu.specs.Unit.{Placed, keptOf}
 use Rattle.obu.specs.Wire.{sent}
 use Rattle.obu.specs.Laws.{Inside}
@@ -15,7 +15,7 @@ use Rattle.obu.proofs.Theorems.{kept-inside, inside-size, sent-length}
 use Rattle.packetizer.specs.Plan.{leastMtu}
 use Rattle.packetizer.specs.Elements.{elementsOf}
 use Rattle.packetizer.specs.Call.{sizesOf, unitPlan}
-use Rattle.packetizer.specs.Laws.{Positive, partOf, joined, sentOf}
+use Rattle.packetizer.specs.Laws.{Positive, partOf, sentOf}
 use Rattle.packetizer.proofs.Pieces.{plan-joined}
 
 -- ---- the sizes of a unit's kept OBUs

@@ -7,7 +7,9 @@ use lib.Dec.{ltb}
 use Rattle.base.specs.Answers.{Answer, given, refused, stored}
 use Rattle.obu.specs.Unit.{obusOf, listAnswer, listAfter}
 use Rattle.obu.specs.declared.Obu.{Obu}
-use Rattle.packetizer.specs.Plan.{planNumbers, planOf, flatPlan}
+use Rattle.obu.specs.declared.Listed.{Listed}
+use Rattle.packetizer.specs.Plan.{planOf}
+use Rattle.packetizer.specs.Records.{planNumbers, flatPlan}
 use Rattle.packetizer.specs.declared.PacketMetadata.{PacketMetadata}
 use Rattle.packetizer.specs.declared.Planned.{Planned}
 
@@ -15,28 +17,52 @@ use Rattle.packetizer.specs.declared.Planned.{Planned}
 abbrev pub mtuLimit : ℕ
 mtuLimit = 65533
 
--- the sizes of a unit's kept OBUs, and its plan
+-- the sizes of OBUs; of a unit's kept OBUs, and its plan
+abbrev pub sizes : List Obu → List ℕ
+sizes os = map (λ (o : Obu). o .size) os
+
 abbrev pub sizesOf : List ℕ → List ℕ
-sizesOf unit = map (λ (o : Obu). o .size) (obusOf unit)
+sizesOf unit = sizes (obusOf unit)
 
 abbrev pub unitPlan : ℕ → List ℕ → List PacketMetadata
 unitPlan mtu unit = planOf mtu (sizesOf unit)
 
 -- with space for so many records of the plan, by what the list call answers
-abbrev pub planned : List PacketMetadata → ℕ → Answer ℕ → Answer Planned
-planned ps space (given n) =
-    cond (ltb space (length ps)) (refused 9 0) (given (record { obus = n; packets = length ps }))
+abbrev pub planned : List PacketMetadata → ℕ → Answer Listed → Answer Planned
+planned ps space (given l) =
+    cond (ltb space (length ps)) (refused 9 0) (given (record { obus = l .obus; packets = length ps }))
 planned ps space (refused n at) = refused n at
 
-unfoldable pub planAnswer : ℕ → List ℕ → List ℕ → List ℕ → Answer Planned
-planAnswer mtu unit obus plan =
-    cond (ltb mtuLimit mtu)
+-- ---- what the call is given, and what comes of it: its answer, and the two lists afterwards
+
+pub record Inputs : Type 0 where
+  pub mtu : ℕ
+  pub unit : List ℕ
+  pub obus : List ℕ
+  pub plan : List ℕ
+
+pub record After : Type 0 where
+  pub answer : Answer Planned
+  pub obus : List ℕ
+  pub plan : List ℕ
+
+abbrev pub toPlan : ℕ → List ℕ → List ℕ → List ℕ → Inputs
+toPlan mtu unit obus plan = record { mtu = mtu; unit = unit; obus = obus; plan = plan }
+
+abbrev pub leaves : Answer Planned → List ℕ → List ℕ → After
+leaves answer obus plan = record { answer = answer; obus = obus; plan = plan }
+
+unfoldable pub planAnswer : Inputs → Answer Planned
+planAnswer i =
+    cond (ltb mtuLimit (i .mtu))
     (refused 1 0)
-    (planned (unitPlan mtu unit) (length plan / planNumbers) (listAnswer unit obus))
+    (planned (unitPlan (i .mtu) (i .unit)) (length (i .plan) / planNumbers) (listAnswer (i .unit) (i .obus)))
 
--- the two lists afterwards: refusal 9 leaves the OBU list filled
-abbrev pub obusAfter : ℕ → List ℕ → List ℕ → List ℕ
-obusAfter mtu unit obus = cond (ltb mtuLimit mtu) obus (listAfter unit obus)
-
-abbrev pub planAfter : ℕ → List ℕ → List ℕ → List ℕ → List ℕ
-planAfter mtu unit obus plan = stored (planAnswer mtu unit obus plan) (flatPlan (unitPlan mtu unit)) plan
+-- refusal 9 leaves the OBU list filled
+abbrev pub planUnit : Inputs → After
+planUnit i =
+    record {
+      answer = planAnswer i;
+      obus = cond (ltb mtuLimit (i .mtu)) (i .obus) (listAfter (i .unit) (i .obus));
+      plan = stored (planAnswer i) (flatPlan (unitPlan (i .mtu) (i .unit))) (i .plan);
+    }

@@ -1,7 +1,7 @@
 -- What the laws of a plan are stated with (P13, P14).
 use mathlib.Core.Path.{_≡_}
 use Prim.Native.Nat.{ℕ, _+_, _-_, _≤_, _<_}
-use mathlib.Core.List.{List, [], _∷_, map, flatMap}
+use mathlib.Core.List.{List, [], _∷_, map}
 use mathlib.Core.Bool.{cond}
 use lib.ListN.{length, getD, take, drop}
 use lib.Dec.{ltb, eqb}
@@ -64,12 +64,9 @@ Runs room sizes a (p ∷ ps) b = (startsAt p ≡ a) × Sound room sizes p × Run
 abbrev pub EndsObu : List ℕ → Element → Type 0
 EndsObu sizes e = e .from + e .size ≡ getD sizes (e .obu) 0
 
--- the bytes of an element of these OBUs, and of all OBUs
+-- the bytes of an element of these OBUs
 abbrev pub partOf : List (List ℕ) → Element → List ℕ
 partOf obus e = take (e .size) (drop (e .from) (getD obus (e .obu) []))
-
-abbrev pub joined : List (List ℕ) → List ℕ
-joined obus = flatMap (λ (o : List ℕ). o) obus
 
 -- what is sent of the kept OBUs of a unit
 abbrev pub sentOf : List ℕ → List (List ℕ)

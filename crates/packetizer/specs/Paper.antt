@@ -1,13 +1,11 @@
 -- What the answers and the stores of the code stand for.
-use Prim.Native.Nat.{ℕ, zero, suc, _*_}
-use mathlib.Core.List.{List, [], _∷_}
+use Prim.Native.Nat.{ℕ, _*_}
+use mathlib.Core.List.{List}
 use mathlib.Core.Bool.{Bool, cond}
-use lib.ListN.{getD, drop}
 use lib.Seq.{sets}
 use Rattle.base.specs.Refusals.{numberOf}
 use Rattle.base.specs.Answers.{Answer, given, refused}
-use Rattle.obu.specs.Unit.{obuNumbers}
-use Rattle.packetizer.specs.Plan.{planNumbers, flatPlan}
+use Rattle.packetizer.specs.Records.{planNumbers, flatPlan}
 use Rattle.packetizer.specs.declared.PacketMetadata.{PacketMetadata}
 use Rattle.packetizer.specs.declared.Planned.{Planned}
 use Rattle.packetizer.specs.declared.PlanAnswer.{PlanAnswer}
@@ -20,8 +18,3 @@ paper (answer.Refused r at) = refused (numberOf r) at
 -- a lent plan list with these records from record n on, where the code is told to store them
 abbrev pub recorded : Bool → List ℕ → ℕ → List PacketMetadata → List ℕ
 recorded store l n ps = cond store (sets l (n * planNumbers) (flatPlan ps)) l
-
--- the sizes of the first n OBU records of a flat list: the last of each record's numbers
-unfoldable pub sizesIn : ℕ → List ℕ → List ℕ
-sizesIn zero l = []
-sizesIn (suc n) l = getD l 4 0 ∷ sizesIn n (drop obuNumbers l)

@@ -1,20 +1,17 @@
--- How the kept OBUs, by their sizes, are spread over packets (P1 to P10, P15).
+-- How the kept OBUs, by their sizes, are spread over packets (P1 to P10).
 use Prim.Native.Nat.{ℕ, zero, suc, _+_, _-_, min}
-use mathlib.Core.List.{List, [], _∷_, _++_, flatMap}
+use mathlib.Core.List.{List, [], _∷_, _++_}
 use mathlib.Core.Bool.{Bool, cond, _||_}
 use lib.Dec.{ltb, leb, eqb}
 use Rattle.packetizer.specs.Fragment.{fieldSize, largestFragment}
 use Rattle.packetizer.specs.declared.PacketMetadata.{PacketMetadata}
 
--- L8, L9, L16
+-- L8, L9
 abbrev pub leastMtu : ℕ
 leastMtu = 3
 
 abbrev pub mostCounted : ℕ
 mostCounted = 3
-
-abbrev pub planNumbers : ℕ
-planNumbers = 5
 
 -- P3: a packet with nothing in it yet, whose first OBU is i; and what is left in a packet
 abbrev pub newPacket : ℕ → PacketMetadata
@@ -36,12 +33,12 @@ chargeOf p =
     cond (eqb (p .«num_obu_elements») 0 || ltb mostCounted (p .«num_obu_elements»)) 0 (fieldSize (p .«last_obu_size»))
 
 -- the next element would be the fourth or a later one
-abbrev pub isFourth : PacketMetadata → Bool
-isFourth p = leb mostCounted (p .«num_obu_elements»)
+abbrev pub fourthOrLater : PacketMetadata → Bool
+fourthOrLater p = leb mostCounted (p .«num_obu_elements»)
 
 -- P5: a new packet starts; else the charge is added
 unfoldable pub isFull : ℕ → PacketMetadata → Bool
-isFull room p = ltb (leftIn room p) (chargeOf p + cond (isFourth p) 2 1)
+isFull room p = ltb (leftIn room p) (chargeOf p + cond (fourthOrLater p) 2 1)
 
 abbrev pub charged : PacketMetadata → PacketMetadata
 charged p =
@@ -55,7 +52,7 @@ charged p =
 
 -- P6, P7: what an element of n bytes needs, and the packet with it
 unfoldable pub needOf : PacketMetadata → ℕ → ℕ
-needOf p n = n + cond (isFourth p) (fieldSize n) 0
+needOf p n = n + cond (fourthOrLater p) (fieldSize n) 0
 
 abbrev pub withElement : PacketMetadata → ℕ → PacketMetadata
 withElement p n =
@@ -69,7 +66,7 @@ withElement p n =
 
 -- P7: the first fragment of an OBU of s bytes
 unfoldable pub fragmentOf : ℕ → PacketMetadata → ℕ → ℕ
-fragmentOf room p s = min (s - 1) (cond (isFourth p) (largestFragment (leftIn room p)) (leftIn room p))
+fragmentOf room p s = min (s - 1) (cond (fourthOrLater p) (largestFragment (leftIn room p)) (leftIn room p))
 
 -- P9, P10: a packet whose one element is n bytes of OBU i, from o on
 abbrev pub alone : ℕ → ℕ → ℕ → PacketMetadata
@@ -83,18 +80,18 @@ alone i o n =
     }
 
 -- the packets that an OBU closes, and the current one after it
-pub record Placed : Type 0 where
+pub record Placing : Type 0 where
   pub closed : List PacketMetadata
   pub current : PacketMetadata
 
-abbrev pub filling : PacketMetadata → Placed
+abbrev pub filling : PacketMetadata → Placing
 filling p = record { closed = []; current = p }
 
-abbrev pub closing : PacketMetadata → Placed → Placed
+abbrev pub closing : PacketMetadata → Placing → Placing
 closing p next = record { closed = p ∷ next .closed; current = next .current }
 
 -- P9, P10: OBU i, of s bytes, from o on in new packets; the first number bounds how many are closed
-unfoldable pub spread : ℕ → ℕ → ℕ → ℕ → ℕ → Placed
+unfoldable pub spread : ℕ → ℕ → ℕ → ℕ → ℕ → Placing
 spread zero room i s o = filling (alone i o (s - o))
 spread (suc most) room i s o =
     cond (ltb room (s - o)) (closing (alone i o room) (spread most room i s (o + room))) (filling (alone i o (s - o)))
@@ -104,15 +101,15 @@ abbrev pub cutAt : PacketMetadata → PacketMetadata → ℕ → PacketMetadata
 cutAt p q f = cond (eqb f 0) p (withElement q f)
 
 -- P6 to P10: OBU i, of s bytes, put into the packet p; q is p with the charge, and f the first fragment
-abbrev pub putIn : ℕ → ℕ → ℕ → PacketMetadata → PacketMetadata → ℕ → Placed
+abbrev pub putIn : ℕ → ℕ → ℕ → PacketMetadata → PacketMetadata → ℕ → Placing
 putIn room i s p q f =
     cond (ltb (needOf q s) (leftIn room q)) (filling (withElement q s)) (closing (cutAt p q f) (spread s room i s f))
 
-unfoldable pub insert : ℕ → ℕ → ℕ → PacketMetadata → Placed
+unfoldable pub insert : ℕ → ℕ → ℕ → PacketMetadata → Placing
 insert room i s p = putIn room i s p (charged p) (fragmentOf room (charged p) s)
 
 -- P5: in a new packet if this one is full
-unfoldable pub place : ℕ → ℕ → ℕ → PacketMetadata → Placed
+unfoldable pub place : ℕ → ℕ → ℕ → PacketMetadata → Placing
 place room i s p = cond (isFull room p) (closing p (insert room i s (newPacket i))) (insert room i s p)
 
 -- P3: the OBUs from i on, of these sizes, with the packet p as the current one
@@ -124,16 +121,3 @@ planFrom room i (s ∷ ss) p = place room i s p .closed ++ planFrom room (i + 1)
 unfoldable pub planOf : ℕ → List ℕ → List PacketMetadata
 planOf mtu [] = []
 planOf mtu (s ∷ ss) = cond (ltb mtu leastMtu) [] (planFrom (mtu - 1) 0 (s ∷ ss) (newPacket 0))
-
--- P15: the numbers of a record, and of a plan
-abbrev pub recordNumbers : PacketMetadata → List ℕ
-recordNumbers p =
-    p .«first_obu_index»
-    ∷ p .«num_obu_elements»
-    ∷ p .«first_obu_offset»
-    ∷ p .«last_obu_size»
-    ∷ p .«packet_size»
-    ∷ []
-
-abbrev pub flatPlan : List PacketMetadata → List ℕ
-flatPlan ps = flatMap recordNumbers ps

@@ -4,14 +4,17 @@ mod packet; // packet.rt: one packet while it is filled
 use base::Refusal;
 use obu::ObuList;
 ghost use mathlib.Core.Path.{_≡_};
-ghost use Prim.Native.Nat.{ℕ, _+_, _*_, _≤_, _<_};
+ghost use Prim.Native.Nat.{_+_, _*_, _≤_, _<_};
 ghost use mathlib.Core.Bool.{true};
 ghost use mathlib.Core.List.{_∷_, []};
 ghost use lib.ListN.{length, getD};
-ghost use Rattle.obu.specs.Unit.{unitLimit, obuNumbers};
-ghost use Rattle.packetizer.specs.Plan.{planNumbers, chargeOf, spread, insert, place, planOf};
-ghost use Rattle.packetizer.specs.Call.{mtuLimit, planAnswer, obusAfter, planAfter};
-ghost use Rattle.packetizer.specs.Paper.{paper, recorded, sizesIn};
+ghost use Rattle.obu.specs.Unit.{unitLimit};
+ghost use Rattle.obu.specs.Records.{obusIn};
+ghost use Rattle.packetizer.specs.Plan.{chargeOf, spread, insert, place, planOf};
+ghost use Rattle.packetizer.specs.Call.{sizes, toPlan, leaves, planUnit};
+ghost use Rattle.packetizer.specs.Paper.{paper, recorded};
+ghost use Rattle.packetizer.specs.Inside.{Plannable};
+ghost use Rattle.packetizer.specs.Records.{planNumbers, packetsIn, noPacket};
 
 // The largest mtu, the smallest that gives packets, the numbers of a record in a flat list, and the byte that every payload begins with.
 const MTU_LIMIT: usize = 65533;
@@ -58,16 +61,30 @@ fn put_record(plan: &mut [u32], n: usize, p: PacketMetadata, store: bool)
     ensures { λ _. ⌜ now (plan .exit) ≡ recorded store (now (plan .entry)) n (p ∷ []) ⌝ }
 {
     if store {
-        let at = n * PLAN_NUMBERS;
-        base::put_five(
-            plan,
-            at,
+        let numbers = [
             p.first_obu_index,
             p.num_obu_elements,
             p.first_obu_offset,
             p.last_obu_size,
             p.packet_size,
-        );
+        ];
+        base::put_numbers(plan, n * PLAN_NUMBERS, &numbers);
+    }
+}
+
+// Record k of a flat plan of any numbers.
+// Helper: the plan must have a whole record k.
+pub fn packet_at(plan: &[u32], k: usize) -> PacketMetadata
+    requires { ⌜ (k + 1) * planNumbers ≤ length (now plan) ⌝ }
+    ensures { λ r. ⌜ r ≡ getD (packetsIn (now (plan .entry))) k noPacket ⌝ }
+{
+    let at = k * PLAN_NUMBERS;
+    PacketMetadata {
+        first_obu_index: plan[at],
+        num_obu_elements: plan[at + 1],
+        first_obu_offset: plan[at + 2],
+        last_obu_size: plan[at + 3],
+        packet_size: plan[at + 4],
     }
 }
 
@@ -151,23 +168,13 @@ fn place_obu(plan: &mut [u32], store: bool, room: u32, i: u32, size: u32, f: Fil
     insert_obu(plan, store, room, i, size, f)
 }
 
-// The size of the OBU of record i.
-fn size_at(obus: &[u32], i: usize) -> u32
-    requires { ⌜ (i + 1) * obuNumbers ≤ length (now obus) ⌝ }
-    ensures { λ r. ⌜ r ≡ getD (now (obus .entry)) (i * obuNumbers + 4) 0 ⌝ }
+// Plans the OBUs of a list: counts the packets, and stores their records where told to.
+fn packetize(obus: &[u32], mtu: usize, plan: &mut [u32], store: bool) -> usize
+    requires { ⌜ Plannable mtu (sizes (obusIn (now obus))) store (now plan) ⌝ }
+    ensures { λ r. ⌜ (r ≡ length (planOf mtu (sizes (obusIn (now (obus .entry))))))
+        × (now (plan .exit) ≡ recorded store (now (plan .entry)) 0 (planOf mtu (sizes (obusIn (now (obus .entry)))))) ⌝ }
 {
-    let at = i * obu::OBU_NUMBERS + 4;
-    obus[at]
-}
-
-// Plans the first `count` OBUs of a list: counts the packets, and stores their records where told to.
-fn packetize(obus: &[u32], count: usize, mtu: usize, plan: &mut [u32], store: bool) -> usize
-    requires { ⌜ (count * obuNumbers ≤ length (now obus)) × (count ≤ unitLimit) × (mtu ≤ mtuLimit) ⌝ }
-    requires { ⌜ ((j : ℕ) → j < count → (1 ≤ getD (sizesIn count (now obus)) j 0) × (getD (sizesIn count (now obus)) j 0 ≤ unitLimit)) ⌝ }
-    requires { ⌜ (store ≡ true → length (planOf mtu (sizesIn count (now obus))) * planNumbers ≤ length (now plan)) ⌝ }
-    ensures { λ r. ⌜ (r ≡ length (planOf mtu (sizesIn count (now (obus .entry)))))
-        × (now (plan .exit) ≡ recorded store (now (plan .entry)) 0 (planOf mtu (sizesIn count (now (obus .entry))))) ⌝ }
-{
+    let count = obus.len() / obu::OBU_NUMBERS;
     if count == 0 {
         return 0;
     }
@@ -181,7 +188,8 @@ fn packetize(obus: &[u32], count: usize, mtu: usize, plan: &mut [u32], store: bo
     };
     let mut i: usize = 0;
     while i < count {
-        f = place_obu(plan, store, room, i as u32, size_at(obus, i), f);
+        let o = obu::obu_at(obus, i);
+        f = place_obu(plan, store, room, i as u32, o.size, f);
         i += 1;
     }
     put_record(plan, f.records, f.packet, store);
@@ -190,9 +198,8 @@ fn packetize(obus: &[u32], count: usize, mtu: usize, plan: &mut [u32], store: bo
 
 // The list of a unit's kept OBUs and their plan.
 pub fn plan_unit(mtu: usize, unit: &[u8], obus: &mut [u32], plan: &mut [u32]) -> PlanAnswer
-    ensures { λ r. ⌜ (paper r ≡ planAnswer mtu (now (unit .entry)) (now (obus .entry)) (now (plan .entry)))
-        × (now (obus .exit) ≡ obusAfter mtu (now (unit .entry)) (now (obus .entry)))
-        × (now (plan .exit) ≡ planAfter mtu (now (unit .entry)) (now (obus .entry)) (now (plan .entry))) ⌝ }
+    ensures { λ r. ⌜ leaves (paper r) (now (obus .exit)) (now (plan .exit))
+        ≡ planUnit (toPlan mtu (now (unit .entry)) (now (obus .entry)) (now (plan .entry))) ⌝ }
 {
     if mtu > MTU_LIMIT {
         return PlanAnswer::Refused {
@@ -206,17 +213,17 @@ pub fn plan_unit(mtu: usize, unit: &[u8], obus: &mut [u32], plan: &mut [u32]) ->
             at: at,
         },
         ObuList::Listed(listed) => {
-            let count = listed.obus;
-            let packets = packetize(obus, count, mtu, plan, false);
+            let filled = listed.obus * obu::OBU_NUMBERS;
+            let packets = packetize(&obus[..filled], mtu, plan, false);
             if plan.len() / PLAN_NUMBERS < packets {
                 return PlanAnswer::Refused {
                     refusal: Refusal::PlanListFull,
                     at: 0,
                 };
             }
-            packetize(obus, count, mtu, plan, true);
+            packetize(&obus[..filled], mtu, plan, true);
             PlanAnswer::Planned(Planned {
-                obus: count,
+                obus: listed.obus,
                 packets: packets,
             })
         }

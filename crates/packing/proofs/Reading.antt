@@ -1,15 +1,16 @@
 -- The head and a unit's length, case by case. Assumes nothing.
 use mathlib.Core.Path.{_≡_, refl, sym, ap₂, _∙_}
-use Prim.Native.Nat.{ℕ, _≤_, _<_}
+use Prim.Native.Nat.{ℕ, _+_, _≤_, _<_}
 use native.Mathlib.Omega.{arith}
 use mathlib.Core.List.{List, [], _∷_}
 use mathlib.Core.Bool.{cond, _||_}
-use lib.ListN.{length, getD, take, drop}
+use lib.ListN.{length, getD, take}
 use lib.Dec.{ltb}
 use Rattle.base.proofs.Tests.{split-on, or-second}
 use borrow.Author.Tests.{ltb-false, lt-ltb, le-ltb, eq-eqb, ne-eqb}
-use Rattle.train.specs.Bytes.{valueOf}
-use Rattle.packing.specs.Pack.{packVersion, headWidth, unitWidth, unitStore, found, none, headIn, over, stated, cut, lengthIn}
+use Rattle.base.specs.BigEndian.{valueOf, valueAt}
+use Rattle.train.specs.Train.{numberWidth}
+use Rattle.packing.specs.Pack.{packVersion, mtuWidth, headWidth, unitWidth, unitStore, found, none, headIn, over, stated, cut, lengthIn}
 
 -- ---- the head
 
@@ -23,7 +24,7 @@ module _ (l : List ℕ) where
   head-other h v = rw (le-ltb (length l) headWidth h, ne-eqb (getD l 0 0) packVersion v)
 
   pub head-found : (m f : ℕ) → headWidth ≤ length l → getD l 0 0 ≡ packVersion
-      → m ≡ valueOf (take 2 (drop 1 l)) → f ≡ valueOf (take 2 (drop 3 l)) → found (record { mtu = m; first = f }) ≡ headIn l
+      → m ≡ valueAt l 1 mtuWidth → f ≡ valueAt l (1 + mtuWidth) numberWidth → found (record { mtu = m; first = f }) ≡ headIn l
   unfolding headIn
   head-found m f h v p q =
       rw (le-ltb (length l) headWidth h, eq-eqb (getD l 0 0) packVersion v)

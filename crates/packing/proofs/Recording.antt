@@ -6,48 +6,40 @@ use native.Mathlib.Numerals.{add-one}
 use native.Mathlib.Omega.{arith}
 use mathlib.Core.List.{List, [], _∷_, _++_, flatMap}
 use lib.ListN.{length, getD, take, drop, length-append, drop-of-length-le}
-use lib.Seq.{drop-cons, drop-drop, take-at, take-take, take-all, drop-at, sets, sets-eq}
-use Rattle.base.specs.Lists.{front, replaced, Put}
-use Rattle.base.proofs.Lists.{sets-append, take-drop, put-front}
+use lib.Seq.{drop-cons, drop-drop, take-at, take-take, take-all, drop-at}
+use Rattle.base.specs.Lists.{front, Put, joined}
+use Rattle.base.proofs.Lists.{take-drop, put-then, put-front}
 use Rattle.leb128.specs.Field.{encode}
 use Rattle.obu.specs.Unit.{obusOf}
 use Rattle.obu.specs.Laws.{Bytes}
 use Rattle.obu.specs.declared.Obu.{Obu}
-use Rattle.packetizer.specs.Plan.{planNumbers}
 use Rattle.packetizer.specs.Call.{mtuLimit, sizesOf, unitPlan}
 use Rattle.packetizer.specs.Laws.{Sound}
+use Rattle.packetizer.specs.Records.{planNumbers, noPacket, packetsIn}
 use Rattle.packetizer.specs.declared.PacketMetadata.{PacketMetadata}
-use Rattle.aggregation.specs.Header.{noPacket}
-use Rattle.aggregation.specs.Flat.{packetsIn}
-use Rattle.payloader.specs.Payload.{payload, payloadsFrom, payloadsOf, joined}
+use Rattle.packetizer.proofs.Records.{packets-flat}
+use Rattle.payloader.specs.Payload.{payload, payloadsFrom, payloadsOf}
 use Rattle.payloader.proofs.Packets.{packet-sound}
 use Rattle.payloader.proofs.Totals.{payload-length}
-use Rattle.payloader.proofs.Units.{packets-flat}
-use Rattle.train.specs.Train.{lengthWidth, numberWidth, Packet, headBytes, recordBytes}
-use Rattle.train.proofs.Numbers.{head-length}
-use Rattle.packing.specs.Steps.{recordRoom, after, leftOf, Ready}
+use Rattle.train.specs.Train.{trainHead, numberWidth, Numbered, recordFields, recordBytes}
+use Rattle.train.proofs.Fields.{fields-length}
+use Rattle.packing.specs.Steps.{recordRoom, after, leftOf, Ready, Recordable}
 use Rattle.packing.specs.declared.unit.Progress.{Progress}
 
-abbrev pub packet : ℕ → List ℕ → Packet
+abbrev pub packet : ℕ → List ℕ → Numbered
 packet n p = record { number = n; payload = p }
 
 -- ---- one record
 
-pub record-length : (n : ℕ) (p : List ℕ) → length (recordBytes lengthWidth (packet n p)) ≡ 4 + length p
-record-length n p =
-    length-append (headBytes lengthWidth (numberWidth + length p) n) p ∙ omega (arith, head-length (numberWidth + length p) n)
+module _ (w n : ℕ) (p : List ℕ) where
+  record-length : length (recordBytes w (packet n p)) ≡ w + numberWidth + length p
+  record-length =
+      length-append (recordFields w (numberWidth + length p) n) p ∙ omega (arith, fields-length w (numberWidth + length p) n)
 
--- head and payload stored one after the other
-pub record-stored : (records : List ℕ) (at n size : ℕ) (p : List ℕ) → length p ≡ size → at + (4 + size) ≤ length records
-    → sets (replaced records at (headBytes lengthWidth (numberWidth + size) n)) (at + lengthWidth + numberWidth) p ≡ sets records at (recordBytes lengthWidth (packet n p))
-record-stored records at n size p e h =
-    let head = headBytes lengthWidth (numberWidth + length p) n in
-    let l : length head ≡ 4 = head-length (numberWidth + length p) n in
-    let s : numberWidth + size ≡ numberWidth + length p = omega arith in
-    let a : at + lengthWidth + numberWidth ≡ at + length head = omega (arith, l) in
-    rw (s, a)
-    (ap (λ (x : List ℕ). sets x (at + length head) p) (sym (sets-eq head records at (omega (arith, l))))
-    ∙ sym (sets-append records at head p))
+  -- what stands before the payload, and the payload, stored one after the other
+  pub record-put : {l l₁ l₂ : List ℕ} {at at₁ at₂ size : ℕ} → length p ≡ size
+      → Put l l₁ at at₁ (recordFields w (numberWidth + size) n) → Put l₁ l₂ at₁ at₂ p → Put l l₂ at at₂ (recordBytes w (packet n p))
+  record-put e h k = put-then (rw (← e) at h) k
 
 -- ---- the payloads from packet k on
 
@@ -113,12 +105,19 @@ module _ {mtu : ℕ} {g : Progress} {unit plan out : List ℕ} (r : Ready mtu g 
   left-length = ap length left-split ∙ length-append (here mtu unit k) more-of
 
   module _ (size : ℕ) (sized : size ≡ length (here mtu unit k)) where
-    pub ready-room : (g .from + size ≤ length out) × (0 + (4 + size) ≤ recordRoom) × (size ≤ mtuLimit)
-    ready-room =
+    abbrev width : ℕ
+    width = trainHead .width
+
+    pub ready-room : (records : List ℕ) → length records ≡ recordRoom → Recordable out (g .from) size width records 0
+    ready-room records e =
         let s : Sound (mtu - 1) (sizesOf unit) (getD (unitPlan mtu unit) k noPacket) = packet-sound mtu unit k (r .small) there in
         let l = payload-length mtu unit (r .small) bytes k there in
         let most : size ≤ mtuLimit = omega (arith, s .most, s .least, r .most) in
-        (omega (arith, r .out-room, left-length), omega arith, most)
+        record {
+          there = omega (arith, r .out-room, left-length);
+          writable = record { there = omega arith; wide = omega arith; short = omega arith };
+          room = omega arith;
+        }
 
     pub ready-taken : take size (drop (g .from) out) ≡ here mtu unit k
     ready-taken =
@@ -146,13 +145,13 @@ module _ {mtu : ℕ} {g : Progress} {unit plan out : List ℕ} (r : Ready mtu g 
         }
 
     -- its record, stored first
-    pub record-is : (n end : ℕ) (l l′ : List ℕ) → end ≡ 0 + (4 + size) → l′ ≡ sets l 0 (recordBytes lengthWidth (packet n (take size (drop (g .from) out)))) → length l ≡ recordRoom
-        → (end ≡ length (recordBytes lengthWidth (packet n (here mtu unit k)))) × (end ≤ recordRoom) × (l′ ≡ front (recordBytes lengthWidth (packet n (here mtu unit k))) l)
-    record-is n end l l′ e f h =
-        let x = recordBytes lengthWidth (packet n (here mtu unit k)) in
-        let long : end ≡ length x = omega (arith, record-length n (here mtu unit k)) in
-        let put : Put l l′ 0 end x = record { cursor = omega arith; stored = f ∙ ap (λ (p : List ℕ). sets l 0 (recordBytes lengthWidth (packet n p))) ready-taken } in
-        (long, omega (arith, ready-room .1), put-front put (omega (arith, ready-room .1)) .1)
+    pub record-is : (n end : ℕ) (l l′ : List ℕ) → length l ≡ recordRoom → Put l l′ 0 end (recordBytes width (packet n (take size (drop (g .from) out))))
+        → (end ≡ length (recordBytes width (packet n (here mtu unit k)))) × (end ≤ recordRoom) × (l′ ≡ front (recordBytes width (packet n (here mtu unit k))) l)
+    record-is n end l l′ e p =
+        let put : Put l l′ 0 end (recordBytes width (packet n (here mtu unit k))) = rw ready-taken at p in
+        let most : end ≤ recordRoom = omega (arith, put .cursor, record-length width n (here mtu unit k), ready-room l e .room) in
+        let stands = put-front put (omega arith) in
+        (stands .0, most, stands .1)
 
 -- the unit stands first in itself
 pub ready-whole : {mtu : ℕ} {g : Progress} {unit plan out : List ℕ} → Ready mtu g unit plan out → Ready mtu g (take (g .unit) unit) plan out

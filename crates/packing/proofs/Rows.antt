@@ -6,17 +6,18 @@ use Rattle.base.specs.Lists.{keep}
 use Rattle.base.specs.Words.{words, wordsOf}
 use Rattle.leb128.specs.Field.{fieldIn, encodeIn}
 use Rattle.obu.specs.Front.{frontOf, headed}
-use Rattle.obu.specs.Unit.{scanFrom, listed}
+use Rattle.obu.specs.Unit.{listed}
 use Rattle.packetizer.specs.Fragment.{largestFragment}
 use Rattle.packetizer.specs.Plan.{chargeOf, isFull, needOf, fragmentOf, spread, insert, place, planFrom, planOf}
 use Rattle.packetizer.specs.Elements.{elementsFrom}
 use Rattle.aggregation.specs.Header.{nOf, byteOf}
 use Rattle.payloader.specs.Payload.{fielded, payload, payloadsFrom}
-use Rattle.train.specs.Bytes.{bigEndian, valueAfter}
+use Rattle.base.specs.BigEndian.{bigEndian, valueAfter}
+use Rattle.base.specs.Streams.{streamFrom}
 use Rattle.turns.specs.Text.{decimalIn, lineText}
 use Rattle.turns.specs.declared.Subject.the-variants as subject
 use Rattle.turns.specs.declared.Word.the-variants as word
-use Rattle.packing.specs.Pack.{headIn, lengthIn, numbered, numberAfter, unitsFrom, packOf, packSays}
+use Rattle.packing.specs.Pack.{headIn, lengthIn, numbered, numberAfter, packOf, packSays}
 
 -- three units, the first with no kept OBU, over the end of the numbers; the third refused; cut; its length cut; over the store;
 -- without it; no unit; an mtu of 2; an mtu over its limit; another version; a cut head; nothing
@@ -51,7 +52,7 @@ trains :
     ∷ []
     ∷ []
     ∷ []
-unfolding inputs headIn lengthIn numbered numberAfter unitsFrom bigEndian valueAfter listed scanFrom frontOf headed fieldIn keep encodeIn planOf planFrom place insert spread fragmentOf needOf isFull chargeOf largestFragment elementsFrom nOf byteOf fielded payload payloadsFrom flatMap
+unfolding inputs headIn lengthIn numbered numberAfter streamFrom bigEndian valueAfter listed frontOf headed fieldIn keep encodeIn planOf planFrom place insert spread fragmentOf needOf isFull chargeOf largestFragment elementsFrom nOf byteOf fielded payload payloadsFrom flatMap
 trains = refl
 
 said :
@@ -69,5 +70,5 @@ said :
     ∷ lineText subject.Input word.NoHead
     ∷ lineText subject.Input word.NoHead
     ∷ []
-unfolding inputs headIn lengthIn numbered numberAfter unitsFrom bigEndian valueAfter listed scanFrom frontOf headed fieldIn keep encodeIn planOf planFrom place insert spread fragmentOf needOf isFull chargeOf largestFragment elementsFrom nOf byteOf fielded payload payloadsFrom flatMap lineText decimalIn wordsOf words
+unfolding inputs headIn lengthIn numbered numberAfter streamFrom bigEndian valueAfter listed frontOf headed fieldIn keep encodeIn planOf planFrom place insert spread fragmentOf needOf isFull chargeOf largestFragment elementsFrom nOf byteOf fielded payload payloadsFrom flatMap lineText decimalIn wordsOf words
 said = refl

@@ -5,26 +5,29 @@ use native.Mathlib.Omega.{arith}
 use mathlib.Core.List.{List, [], _∷_, _++_, append-nil, append-assoc, flatMap}
 use mathlib.Core.Bool.{Bool, true, false, cond}
 use lib.ListN.{length, take, drop, length-drop}
-use lib.Seq.{drop-nil, drop-drop, take-take, take-at, length-take-le}
+use lib.Seq.{drop-drop, take-take, take-at, length-take-le}
 use lib.Dec.{ltb}
 use borrow.Author.Tests.{ltb-false, le-ltb}
 use Rattle.base.specs.Answers.{Answer, given, refused}
-use Rattle.base.specs.Lists.{front}
+use Rattle.base.specs.Lists.{front, joined}
+use Rattle.base.specs.Streams.{Next, halt, chained}
 use Rattle.base.proofs.Lists.{short-front, flatMap-append}
-use Rattle.base.proofs.Tests.{split-on}
+use Rattle.base.proofs.Tests.{by-cond, split-on}
+use Rattle.base.proofs.Streams.{Some, stream-next}
 use Rattle.obu.specs.Unit.{obusOf, listed}
+use Rattle.obu.specs.declared.Listed.{Listed}
 use Rattle.packetizer.specs.Call.{mtuLimit, unitPlan, planned}
-use Rattle.payloader.specs.Payload.{payloadsOf, joined}
+use Rattle.payloader.specs.Payload.{payloadsOf}
 use Rattle.payloader.specs.Call.{written}
 use Rattle.payloader.specs.declared.Payloads.{Payloads}
-use Rattle.train.specs.Train.{lengthWidth, Packet, recordBytes, trainVersion}
+use Rattle.train.specs.Train.{trainHead, Numbered, recordBytes}
 use Rattle.turns.specs.Text.{lineText}
 use Rattle.turns.specs.Orders as orders
 use Rattle.turns.specs.Orders.{nextCount, Told, asks, says}
 use Rattle.turns.specs.Loop.{Output, nothing, also, loop}
 use Rattle.turns.specs.declared.Subject.{Subject}
 use Rattle.turns.specs.declared.Word.{Word}
-use Rattle.packing.specs.Pack.{listRecords, outputBytes, headWidth, unitWidth, Head, found, none, headIn, Length, over, stated, cut, lengthIn, nextNumber, numbered, numberAfter, recordsOf, answerIn, cutShort, packedBy, unitIn, Units, stopped, cutAt, withUnit, withLength, unitsFrom, unitsBy, packOf, trainBy, saidAt, saidBy, packSays}
+use Rattle.packing.specs.Pack.{listRecords, outputBytes, headWidth, unitWidth, Head, found, none, headIn, Length, over, stated, cut, lengthIn, nextNumber, numbered, numberAfter, writtenRecords, answerIn, cutShort, packedBy, unitIn, Units, PackEnd, ended, cutAt, unitBy, unitAfter, unitNext, unitsFrom, unitsBy, packOf, trainBy, saidAt, saidBy, packSays}
 use Rattle.packing.specs.Steps.{awaits, startsWith, headTold, lengthTold, unitTold, begins, after}
 use Rattle.packing.specs.Run.{pack, runOf}
 use Rattle.packing.specs.declared.unit.Progress.{Progress}
@@ -65,7 +68,7 @@ stated-there (b ∷ l) s e = split-on (ltb (length (b ∷ l)) unitWidth)
 -- ---- a unit that is packed has no more packets than its list holds
 
 module _ (mtu : ℕ) (u : List ℕ) (p : Payloads) where
-  by-planned : (a : Answer ℕ) → given p ≡ written (joined (payloadsOf mtu u)) outputBytes (planned (unitPlan mtu u) listRecords a) → length (unitPlan mtu u) ≤ listRecords
+  by-planned : (a : Answer Listed) → given p ≡ written (joined (payloadsOf mtu u)) outputBytes (planned (unitPlan mtu u) listRecords a) → length (unitPlan mtu u) ≤ listRecords
   by-planned (refused k at) e = let z : _≡_ {A = ℕ} 0 1 = cc in absurd (omega arith)
   by-planned (given n) e = split-on (ltb listRecords (length (unitPlan mtu u)))
       (λ t.
@@ -87,7 +90,22 @@ module _ (mtu : ℕ) (u : List ℕ) (p : Payloads) where
 pub numbered-append : (n : ℕ) (ps qs : List (List ℕ)) → numbered n (ps ++ qs) ≡ numbered n ps ++ numbered (numberAfter n ps) qs
 unfolding numbered numberAfter
 numbered-append n [] qs = refl
-numbered-append n (p ∷ ps) qs = ap (λ (l : List Packet). record { number = n; payload = p } ∷ l) (numbered-append (nextNumber n) ps qs)
+numbered-append n (p ∷ ps) qs = ap (λ (l : List Numbered). record { number = n; payload = p } ∷ l) (numbered-append (nextNumber n) ps qs)
+
+-- an item of a stream of units has a byte
+some-answered : (i s : ℕ) (u : List ℕ) (a : Answer Payloads) → Some (unitBy i (unitWidth + s) u a)
+some-answered i s u (given p) = omega arith
+some-answered i s u (refused k at) = tt
+
+some-after : (mtu i : ℕ) (l : List ℕ) (x : Length) → Some (unitAfter mtu i l x)
+some-after mtu i l over = tt
+some-after mtu i l cut = tt
+some-after mtu i l (stated s) =
+    let u : List ℕ = take s (drop unitWidth l) in
+    by-cond Some (ltb (length (drop unitWidth l)) s) _ _ (λ t. tt) (λ t. some-answered i s u (answerIn listRecords listRecords outputBytes mtu u))
+
+pub unit-some : (mtu i : ℕ) (l : List ℕ) → Some (unitNext mtu i l)
+unit-some mtu i l = some-after mtu i l (lengthIn l)
 
 -- ---- the end of a run
 
@@ -107,44 +125,22 @@ run-says (suc n) h p x w s l =
 module _ (mtu : ℕ) where
   -- the records of units, the first packet of which has the number n
   abbrev records-of : ℕ → List (List ℕ) → List ℕ
-  records-of n units = recordsOf n (flatMap (payloadsOf mtu) units)
+  records-of n units = writtenRecords (trainHead .width) n (flatMap (payloadsOf mtu) units)
 
   records-more : (n : ℕ) (u : List ℕ) (us : List (List ℕ))
-      → records-of n (u ∷ us) ≡ recordsOf n (payloadsOf mtu u) ++ records-of (numberAfter n (payloadsOf mtu u)) us
+      → records-of n (u ∷ us) ≡ writtenRecords (trainHead .width) n (payloadsOf mtu u) ++ records-of (numberAfter n (payloadsOf mtu u)) us
   unfolding flatMap
   records-more n u us =
-      ap (flatMap (recordBytes lengthWidth)) (numbered-append n (payloadsOf mtu u) (flatMap (payloadsOf mtu) us))
-      ∙ flatMap-append (recordBytes lengthWidth) (numbered n (payloadsOf mtu u)) (numbered (numberAfter n (payloadsOf mtu u)) (flatMap (payloadsOf mtu) us))
+      ap (flatMap (recordBytes (trainHead .width))) (numbered-append n (payloadsOf mtu u) (flatMap (payloadsOf mtu) us))
+      ∙ flatMap-append (recordBytes (trainHead .width)) (numbered n (payloadsOf mtu u)) (numbered (numberAfter n (payloadsOf mtu u)) (flatMap (payloadsOf mtu) us))
 
   -- what is to come of units, the first packet of which has the number n
   abbrev outputFor : ℕ → Units → Output
-  outputFor n u = record { written = records-of n (u .units); said = saidAt (u .stop) }
+  outputFor n u = record { written = records-of n (u .items); said = saidAt (u .stop) }
 
-  -- the units of bytes that begin with a unit
+  -- the units from unit i on
   abbrev units-at : ℕ → List ℕ → Units
-  units-at i l = unitsFrom mtu i l 0
-
-  units-skip : (i : ℕ) (l : List ℕ) (skip : ℕ) → unitsFrom mtu i l skip ≡ units-at i (drop skip l)
-  unfolding unitsFrom
-  units-skip i [] skip = rw (drop-nil skip)
-  units-skip i (b ∷ l) zero = refl
-  units-skip i (b ∷ l) (suc skip) = units-skip i l skip
-
-  with-same : (i : ℕ) (l : List ℕ) (x : Length) (f g : ℕ → Units) → ((s : ℕ) → f (unitWidth + s) ≡ g (unitWidth + s)) → withLength mtu i l x f ≡ withLength mtu i l x g
-  with-same i l over f g h = refl
-  with-same i l cut f g h = refl
-  with-same i l (stated s) f g h =
-      ap (λ (u : Units). cond (ltb (length (drop unitWidth l)) s) (stopped (cutAt i)) (withUnit i (take s (drop unitWidth l)) (answerIn listRecords listRecords outputBytes mtu (take s (drop unitWidth l))) u)) (h s)
-
-  -- the unit at the front, and then the rest
-  units-step : (i : ℕ) (l : List ℕ) → units-at i l ≡ withLength mtu i l (lengthIn l) (λ span. units-at (nextCount i) (drop span l))
-  unfolding unitsFrom lengthIn
-  units-step i [] = refl
-  units-step i (b ∷ l) =
-      with-same i (b ∷ l) (lengthIn (b ∷ l)) _ _
-      (λ s.
-      let e : suc (unitWidth + s - 1) ≡ unitWidth + s = omega arith in
-      units-skip (nextCount i) l (unitWidth + s - 1) ∙ ap (λ (k : ℕ). units-at (nextCount i) (drop k (b ∷ l))) e)
+  units-at i l = unitsFrom mtu i l
 
   -- ---- from a unit on
 
@@ -172,7 +168,7 @@ module _ (mtu : ℕ) where
     abbrev packetsThen : ℕ → List (List ℕ) → Output
     packetsThen n ps =
         record {
-          written = recordsOf n ps ++ records-of (numberAfter n ps) (units-at (nextCount i) l .units);
+          written = writtenRecords (trainHead .width) n ps ++ records-of (numberAfter n ps) (units-at (nextCount i) l .items);
           said = saidAt (units-at (nextCount i) l .stop);
         }
 
@@ -186,24 +182,28 @@ module _ (mtu : ℕ) where
     run-packets (x ∷ ps) (suc turns) n g w e f h k =
         let rest : drop (g .packet + 1) (payloadsOf mtu u) ≡ ps = sym (drop-drop 1 (g .packet) (payloadsOf mtu u)) ∙ ap (drop 1) f in
         ap (also w [])
-        (rw (e, f) (run-packets ps turns (nextNumber n) (after g (length x)) (recordBytes lengthWidth (record { number = n; payload = x })) e rest (omega arith) (omega arith)
+        (rw (e, f) (run-packets ps turns (nextNumber n) (after g (length x)) (recordBytes (trainHead .width) (record { number = n; payload = x })) e rest (omega arith) (omega arith)
         ∙ ap (λ (a : List ℕ). record { written = a; said = saidAt (units-at (nextCount i) l .stop) })
-        (sym (append-assoc (recordBytes lengthWidth (record { number = n; payload = x })) (recordsOf (nextNumber n) ps) (records-of (numberAfter (nextNumber n) ps) (units-at (nextCount i) l .units))))))
+        (sym (append-assoc (recordBytes (trainHead .width) (record { number = n; payload = x })) (writtenRecords (trainHead .width) (nextNumber n) ps) (records-of (numberAfter (nextNumber n) ps) (units-at (nextCount i) l .items))))))
 
   -- ---- one unit, of s bytes, of which those of u were read
 
   module _ (i most need : ℕ) (l : List ℕ) (again : Enough most need (nextCount i) l) (turns n s : ℕ) (enough : turns ≤ most) (some : listRecords + 2 + need ≤ turns) where
+    -- what comes of a unit, and then the units of what follows it
+    abbrev onward : Next (List ℕ) PackEnd ℕ → Units
+    onward x = chained x (λ m j. units-at j l)
+
     by-answer : (u store : List ℕ) → take s store ≡ u → (a : Answer Payloads) → a ≡ answerIn listRecords listRecords outputBytes mtu u
-        → run turns (unitTold (within i n s) s (packedBy (payloadsOf mtu u) a)) store l ≡ outputFor n (withUnit i u a (units-at (nextCount i) l))
+        → run turns (unitTold (within i n s) s (packedBy (payloadsOf mtu u) a)) store l ≡ outputFor n (onward (unitBy i (unitWidth + s) u a))
     unfolding flatMap numbered
     by-answer u store e (refused k at) f = run-says turns (omega arith) (within i n s) _ _ store l
     by-answer u store e (given p) f =
         run-packets i most need u store l again (payloadsOf mtu u) turns n (begins s (length (payloadsOf mtu u))) [] e refl enough (omega (arith, packets-most mtu u p f))
-        ∙ ap (λ (a : List ℕ). record { written = a; said = saidAt (units-at (nextCount i) l .stop) }) (sym (records-more n u (units-at (nextCount i) l .units)))
+        ∙ ap (λ (a : List ℕ). record { written = a; said = saidAt (units-at (nextCount i) l .stop) }) (sym (records-more n u (units-at (nextCount i) l .items)))
 
     by-unit : (u store : List ℕ) (t : Bool) → (t ≡ false → take s store ≡ u)
         → run turns (unitTold (within i n s) s (cond t cutShort (packedBy (payloadsOf mtu u) (answerIn listRecords listRecords outputBytes mtu u)))) store l
-        ≡ outputFor n (cond t (stopped (cutAt i)) (withUnit i u (answerIn listRecords listRecords outputBytes mtu u) (units-at (nextCount i) l)))
+        ≡ outputFor n (onward (cond t (halt (cutAt i)) (unitBy i (unitWidth + s) u (answerIn listRecords listRecords outputBytes mtu u))))
     unfolding flatMap numbered
     by-unit u store true e = run-says turns (omega arith) (within i n s) _ _ store l
     by-unit u store false e = by-answer u store (e refl) (answerIn listRecords listRecords outputBytes mtu u) refl
@@ -212,14 +212,19 @@ module _ (mtu : ℕ) where
 
   module _ (i n : ℕ) (s l : List ℕ) (turns need : ℕ) (some : 2 ≤ turns)
       (again : (m : ℕ) → lengthIn (take unitWidth l) ≡ stated m → (listRecords + 3 + need ≤ turns) × Enough turns need (nextCount i) (drop m (drop unitWidth l))) where
-    units-by : (x : Length) → lengthIn (take unitWidth l) ≡ x → units-at i l ≡ withLength mtu i l x (λ span. units-at (nextCount i) (drop span l))
-    units-by x e = units-step i l ∙ ap (λ (y : Length). withLength mtu i l y (λ span. units-at (nextCount i) (drop span l))) (sym (length-front l) ∙ e)
+    units-by : (x : Length) → lengthIn (take unitWidth l) ≡ x → units-at i l ≡ chained (unitAfter mtu i l x) (λ m j. units-at j (drop m l))
+    unfolding lengthIn
+    units-by x e =
+        stream-next (unitNext mtu) ended (unit-some mtu) (λ j. refl) l i
+        ∙ ap (λ (y : Length). chained (unitAfter mtu i l y) (λ m j. units-at j (drop m l))) (sym (length-front l) ∙ e)
 
-    rest-units : (m : ℕ)
-        → withLength mtu i l (stated m) (λ span. units-at (nextCount i) (drop span l))
-        ≡ cond (ltb (length (drop unitWidth l)) m) (stopped (cutAt i))
-        (withUnit i (take m (drop unitWidth l)) (answerIn listRecords listRecords outputBytes mtu (take m (drop unitWidth l))) (units-at (nextCount i) (drop m (drop unitWidth l))))
-    rest-units m = rw (drop-drop m unitWidth l)
+    -- the rest begins after the bytes of the unit
+    rest-units : (m : ℕ) (u : List ℕ) (t : Bool) (a : Answer Payloads)
+        → chained (cond t (halt (cutAt i)) (unitBy i (unitWidth + m) u a)) (λ k j. units-at j (drop k l))
+        ≡ chained (cond t (halt (cutAt i)) (unitBy i (unitWidth + m) u a)) (λ k j. units-at j (drop m (drop unitWidth l)))
+    rest-units m u true a = refl
+    rest-units m u false (refused k at) = refl
+    rest-units m u false (given p) = rw (drop-drop m unitWidth l)
 
     by-length : (k : ℕ) → k ≡ turns → (x : Length) → lengthIn (take unitWidth l) ≡ x → run k (lengthTold (before i n) x) s (drop unitWidth l) ≡ outputFor n (units-at i l)
     unfolding loop unitIn flatMap numbered
@@ -233,7 +238,7 @@ module _ (mtu : ℕ) where
         (rw (take-take m m r (omega arith), short-front m r)
         (by-unit i turns need (drop m r) (a .1) k n m (omega arith) (omega (arith, a .0)) (take m r) (front (take m r) s) (ltb (length r) m)
         (λ t. take-at (take m r) (drop (length (take m r)) s) m (length-take-le m r (ltb-false (length r) m t)))))
-        ∙ sym (ap (outputFor n) (units-by (stated m) e ∙ rest-units m))
+        ∙ sym (ap (outputFor n) (units-by (stated m) e ∙ rest-units m (take m r) (ltb (length r) m) (answerIn listRecords listRecords outputBytes mtu (take m r))))
 
   -- ---- all units
 
@@ -265,9 +270,9 @@ run-packs (suc n) s input h = ap By (head-front input) ∙ go (headIn input)
     By : Head → Output
     By x = also [] [] (run n (headTold (startsWith .place) x) (front (take headWidth input) s) (drop headWidth input))
 
-    go : (x : Head) → By x ≡ record { written = trainBy (unitsBy (drop headWidth input) x .units) x; said = saidBy (unitsBy (drop headWidth input) x .stop) x }
+    go : (x : Head) → By x ≡ record { written = trainBy (unitsBy (drop headWidth input) x .items) x; said = saidBy (unitsBy (drop headWidth input) x .stop) x }
     go none = ap (also [] []) (run-says n (omega arith) (startsWith .place) _ _ _ _)
     go (found x) =
         ap (also [] [])
         (run-units (x .mtu) n n (omega arith) 0 (drop headWidth input) (omega (arith, length-drop headWidth input))
-        (x .first) (front (take headWidth input) s) (trainVersion ∷ []))
+        (x .first) (front (take headWidth input) s) (trainHead .version ∷ []))

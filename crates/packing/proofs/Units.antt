@@ -8,16 +8,18 @@ use lib.Seq.{take-at}
 use lib.Dec.{ltb}
 use borrow.Author.Tests.{ltb-false, lt-ltb, le-ltb}
 use Rattle.base.specs.Answers.{Answer, given, refused, stored}
-use Rattle.base.specs.Lists.{front}
+use Rattle.base.specs.Lists.{front, joined}
 use Rattle.base.proofs.Tests.{split-on}
-use Rattle.obu.specs.Unit.{unitLimit, obuNumbers, obusOf}
-use Rattle.packetizer.specs.Plan.{planNumbers, flatPlan}
-use Rattle.packetizer.specs.Call.{mtuLimit, unitPlan, planAnswer, planAfter}
+use Rattle.obu.specs.Unit.{unitLimit, obusOf}
+use Rattle.obu.specs.Records.{obuNumbers}
+use Rattle.packetizer.specs.Call.{mtuLimit, unitPlan, toPlan, planAnswer, planUnit}
+use Rattle.packetizer.specs.Records.{planNumbers, flatPlan}
 use Rattle.packetizer.specs.declared.Planned.{Planned}
-use Rattle.payloader.specs.Payload.{payloadsOf, joined}
-use Rattle.payloader.specs.Call.{written, payloadAnswer, outAfter}
+use Rattle.packetizer.proofs.Records.{plan-part}
+use Rattle.payloader.specs.Payload.{payloadsOf}
+use Rattle.payloader.specs.Call.{written, toWrite, payloadAnswer, writeUnit}
 use Rattle.payloader.specs.declared.Payloads.{Payloads}
-use Rattle.payloader.proofs.Calls.{accepted, plan-part}
+use Rattle.payloader.proofs.Calls.{accepted}
 use Rattle.packing.specs.Pack.{outputBytes, answerIn, cutShort, refusedBy, packed, packedBy, unitIn}
 use Rattle.packing.specs.Steps.{listNumbers, begins, stepIn, Ready}
 use Rattle.packing.specs.declared.unit.UnitAnswer.the-variants as unit
@@ -26,7 +28,7 @@ use Rattle.packing.proofs.Recording.{payloads-count}
 -- ---- what is known where the payload call has written
 
 module _ (mtu : ℕ) (unit obus plan out : List ℕ) where
-  pub answer-is : payloadAnswer mtu unit obus plan out ≡ answerIn (length obus / obuNumbers) (length plan / planNumbers) (length out) mtu unit
+  pub answer-is : payloadAnswer (toWrite mtu unit obus plan out) ≡ answerIn (length obus / obuNumbers) (length plan / planNumbers) (length out) mtu unit
   unfolding payloadAnswer planAnswer
   answer-is = refl
 
@@ -36,11 +38,11 @@ module _ (mtu : ℕ) (unit obus plan out : List ℕ) where
     pub packets : p .packets ≡ length (unitPlan mtu unit)
     pub plan-room : p .packets * planNumbers ≤ length plan
     pub out-room : length (joined (payloadsOf mtu unit)) ≤ length out
-    pub plan-is : planAfter mtu unit obus plan ≡ front (flatPlan (unitPlan mtu unit)) plan
-    pub out-is : outAfter mtu unit obus plan out ≡ front (joined (payloadsOf mtu unit)) out
+    pub plan-is : planUnit (toPlan mtu unit obus plan) .plan ≡ front (flatPlan (unitPlan mtu unit)) plan
+    pub out-is : writeUnit (toWrite mtu unit obus plan out) .out ≡ front (joined (payloadsOf mtu unit)) out
 
-  module _ (p : Payloads) (e : given p ≡ payloadAnswer mtu unit obus plan out) where
-    by-plan : (a : Answer Planned) → a ≡ planAnswer mtu unit obus plan → given p ≡ written (joined (payloadsOf mtu unit)) (length out) a → Written p
+  module _ (p : Payloads) (e : given p ≡ payloadAnswer (toWrite mtu unit obus plan out)) where
+    by-plan : (a : Answer Planned) → a ≡ planAnswer (toPlan mtu unit obus plan) → given p ≡ written (joined (payloadsOf mtu unit)) (length out) a → Written p
     by-plan (refused n at) q f = let z : _≡_ {A = ℕ} 0 1 = cc in absurd (omega arith)
     by-plan (given g) q f = split-on (ltb (length out) (length (joined (payloadsOf mtu unit))))
         (λ t.
@@ -64,10 +66,10 @@ module _ (mtu : ℕ) (unit obus plan out : List ℕ) where
 
     written-known : Written p
     unfolding payloadAnswer
-    written-known = by-plan (planAnswer mtu unit obus plan) refl e
+    written-known = by-plan (planAnswer (toPlan mtu unit obus plan)) refl e
 
     -- its first packet is ready to be written
-    pub unit-ready : (plan′ out′ : List ℕ) → plan′ ≡ planAfter mtu unit obus plan → out′ ≡ outAfter mtu unit obus plan out → length plan′ ≡ length plan → length out′ ≡ length out
+    pub unit-ready : (plan′ out′ : List ℕ) → plan′ ≡ planUnit (toPlan mtu unit obus plan) .plan → out′ ≡ writeUnit (toWrite mtu unit obus plan out) .out → length plan′ ≡ length plan → length out′ ≡ length out
         → Ready mtu (begins (length unit) (p .packets)) unit plan′ out′
     unit-ready plan′ out′ q o lp lo =
         let k = written-known in

@@ -3,11 +3,13 @@ use Prim.Native.Nat.{ℕ, _+_, _*_, _≤_}
 use mathlib.Core.Path.{_≡_}
 use mathlib.Core.List.{List, [], _∷_}
 use lib.ListN.{length, take, drop}
+use Rattle.base.specs.Lists.{joined}
 use Rattle.obu.specs.Unit.{unitLimit}
-use Rattle.packetizer.specs.Plan.{planNumbers, flatPlan}
 use Rattle.packetizer.specs.Call.{mtuLimit, unitPlan}
-use Rattle.payloader.specs.Payload.{payloadsOf, joined}
-use Rattle.train.specs.Train.{trainVersion, lengthWidth, recordBytes}
+use Rattle.packetizer.specs.Records.{planNumbers, flatPlan}
+use Rattle.payloader.specs.Payload.{payloadsOf}
+use Rattle.train.specs.Train.{trainHead, numberWidth, recordBytes}
+use Rattle.train.specs.Laws.{Writable}
 use Rattle.turns.specs.Text.{lineBytes}
 use Rattle.turns.specs.Orders.{nextCount, Told, ends, asks, says, Within, Turned, Arrival, bytes, readFailed, writeFailed, CameWithin}
 use Rattle.turns.specs.declared.Order.{Order}
@@ -22,12 +24,12 @@ use Rattle.packing.specs.declared.Wait.the-variants as wait
 use Rattle.packing.specs.declared.Place.{Place}
 use Rattle.packing.specs.declared.Turn.{Turn}
 
--- the numbers of a list, and the bytes that are lent for a record
+-- the numbers of a list, and the bytes that are lent for a record: those of one with as long a payload as the output holds
 abbrev pub listNumbers : ℕ
 listNumbers = listRecords * planNumbers
 
 abbrev pub recordRoom : ℕ
-recordRoom = 65540
+recordRoom = trainHead .width + numberWidth + outputBytes
 
 -- the same unit, with this to wait for; and the next unit
 abbrev pub awaits : Place → Wait → Place
@@ -44,7 +46,7 @@ startsWith = asks (record { wait = wait.Head; count = 0; mtu = 0; number = 0 }) 
 
 -- after the head: the version byte of the train is written; or there is none
 abbrev pub headTold : Place → Head → Told Place
-headTold p (found h) = asks (record { wait = wait.Length; count = p .count; mtu = h .mtu; number = h .first }) (trainVersion ∷ []) unitWidth
+headTold p (found h) = asks (record { wait = wait.Length; count = p .count; mtu = h .mtu; number = h .first }) (trainHead .version ∷ []) unitWidth
 headTold p none = says (awaits p wait.Nothing) subject.Input word.NoHead 0
 
 -- after a length: the end, or a unit that is cut or over the store
@@ -76,7 +78,7 @@ leftTold p g [] = asks (next p) [] unitWidth
 leftTold p g (x ∷ more) =
     asks
     (record { wait = wait.Packets (after g (length x)); count = p .count; mtu = p .mtu; number = nextNumber (p .number) })
-    (recordBytes lengthWidth (record { number = p .number; payload = x })) 0
+    (recordBytes (trainHead .width) (record { number = p .number; payload = x })) 0
 
 abbrev pub packetTold : Place → Progress → List (List ℕ) → Told Place
 packetTold p g payloads = leftTold p g (drop (g .packet) payloads)
@@ -125,6 +127,12 @@ pub record Ready (mtu : ℕ) (g : Progress) (unit plan out : List ℕ) : Type 0 
   pub plan-is : take (g .packets * planNumbers) plan ≡ flatPlan (unitPlan mtu unit)
   pub out-room : g .from + length (leftOf mtu unit g) ≤ length out
   pub out-is : take (length (leftOf mtu unit g)) (drop (g .from) out) ≡ leftOf mtu unit g
+
+-- a payload that is there, and space for its record, whose length field can state it
+pub record Recordable (payloads : List ℕ) (from size w : ℕ) (records : List ℕ) (at : ℕ) : Type 0 where
+  pub there : from + size ≤ length payloads
+  pub writable : Writable records at w size
+  pub room : at + (w + numberWidth + size) ≤ length records
 
 -- what has to hold of the stores where a run stands: a unit that is read fits; that whose packets are written stands first in the input
 abbrev pub ReadyBy : Wait → ℕ → List ℕ → List ℕ → List ℕ → Type 0

@@ -1,10 +1,13 @@
 // What `pack` reads: the head of its input, and a unit's length (G2, G4, G6).
+use base::big_endian::number_at;
 ghost use mathlib.Core.Path.{_≡_};
 ghost use Rattle.packing.specs.Pack.{headIn, lengthIn};
 ghost use Rattle.packing.specs.Paper.{paperHead, paperLength};
 
-// The bytes of the head and of a unit's length, and the version byte of the input.
-pub const HEAD_WIDTH: usize = 5;
+// The bytes of the mtu, of the head and of a unit's length, and the version byte of the input.
+const MTU_WIDTH: usize = 2;
+
+pub const HEAD_WIDTH: usize = 1 + MTU_WIDTH + train::NUMBER_WIDTH;
 
 pub const UNIT_WIDTH: usize = 4;
 
@@ -38,9 +41,11 @@ pub fn read_pack_head(bytes: &[u8]) -> PackHeadRead
     if bytes[0] != PACK_VERSION {
         return PackHeadRead::NoHead;
     }
+    let mtu = number_at(bytes, 1, MTU_WIDTH);
+    let first = number_at(bytes, 1 + MTU_WIDTH, train::NUMBER_WIDTH);
     PackHeadRead::Head(PackHead {
-        mtu: train::two_bytes(bytes, 1) as usize,
-        first: train::two_bytes(bytes, 3),
+        mtu: mtu,
+        first: first as u16,
     })
 }
 
@@ -54,7 +59,7 @@ pub fn read_unit_length(bytes: &[u8]) -> UnitLength
     if bytes.len() < UNIT_WIDTH {
         return UnitLength::Cut;
     }
-    let stated = train::four_bytes(bytes, 0);
+    let stated = number_at(bytes, 0, UNIT_WIDTH);
     if crate::UNIT_STORE < stated {
         return UnitLength::Cut;
     }

@@ -21,17 +21,15 @@ ghost use Rattle.turns.specs.Orders.{arrival, says};
 ghost use Rattle.packing.specs.Pack.{unitStore, outputBytes, headIn, lengthIn};
 ghost use Rattle.packing.specs.Steps.{listNumbers, recordRoom, awaits, next, readOf, writtenOf, startsWith, headTold, lengthTold, unitTold, stepIn, packetTold, told, Ready, ReadyAt, Gives, Lent};
 
-// The bytes of a unit, the records of each list, the bytes of the output (L12 to L14).
-pub const UNIT_STORE: usize = 32768;
+// The bytes of a unit and of the output (L12, L14).
+pub const UNIT_STORE: usize = turns::UNIT_STORE;
 
-const LIST_RECORDS: usize = 512;
+pub const OUTPUT_BYTES: usize = turns::OUTPUT_BYTES;
 
-pub const OUTPUT_BYTES: usize = 65536;
+// The numbers of each list, and the bytes of a record with as long a payload as the output holds.
+pub const LIST_NUMBERS: usize = turns::LIST_RECORDS * packetizer::PLAN_NUMBERS;
 
-// The numbers of each list, and more bytes than a record has.
-pub const LIST_NUMBERS: usize = LIST_RECORDS * packetizer::PLAN_NUMBERS;
-
-pub const RECORD_BYTES: usize = 65540;
+pub const RECORD_BYTES: usize = train::LENGTH_WIDTH + train::NUMBER_WIDTH + OUTPUT_BYTES;
 
 // What a run waits for: the head, a unit's length, a unit of so many bytes, that the packets of a unit are written, or nothing.
 pub enum Wait {
@@ -203,7 +201,8 @@ fn record_turn(
     let k = progress.packet;
     let from = progress.from;
     let size = unit::payload_size(&plan[..filled], k);
-    let end = unit::put_record(out, from, size, place.number, written, 0);
+    let width = train::LENGTH_WIDTH;
+    let end = unit::put_record(out, from, size, width, place.number, written, 0);
     let after = Progress {
         unit: progress.unit,
         packets: packets,

@@ -4,16 +4,13 @@ use payloader::PayloadAnswer;
 ghost use mathlib.Core.Path.{_≡_};
 ghost use Prim.Native.Nat.{ℕ, _+_, _*_, _/_, _≤_};
 ghost use lib.ListN.{length, getD, take, drop};
-ghost use lib.Seq.{sets};
-ghost use Rattle.obu.specs.Unit.{obuNumbers};
-ghost use Rattle.packetizer.specs.Plan.{planNumbers};
-ghost use Rattle.packetizer.specs.Call.{mtuLimit};
-ghost use Rattle.aggregation.specs.Header.{noPacket};
-ghost use Rattle.aggregation.specs.Flat.{packetsIn};
-ghost use Rattle.train.specs.Train.{lengthWidth, recordBytes};
+ghost use Rattle.base.specs.Lists.{Put};
+ghost use Rattle.obu.specs.Records.{obuNumbers};
+ghost use Rattle.packetizer.specs.Records.{planNumbers, noPacket, packetsIn};
+ghost use Rattle.train.specs.Train.{recordBytes};
 ghost use Rattle.packing.specs.Pack.{unitStore, answerIn, unitIn};
 ghost use Rattle.packing.specs.Paper.{paperUnit};
-ghost use Rattle.packing.specs.Steps.{begins, Ready};
+ghost use Rattle.packing.specs.Steps.{begins, Ready, Recordable};
 
 // The packets of a unit that is packed: how many bytes it has, how many packets, which is the next to be written, and where its
 // payload stands in the output.
@@ -37,25 +34,26 @@ pub fn payload_size(plan: &[u32], k: usize) -> usize
     requires { ⌜ (k + 1) * planNumbers ≤ length (now plan) ⌝ }
     ensures { λ r. ⌜ r ≡ getD (packetsIn (now (plan .entry))) k noPacket .«packet_size» + 1 ⌝ }
 {
-    let p = aggregation::packet_at(plan, k);
+    let p = packetizer::packet_at(plan, k);
     p.packet_size as usize + 1
 }
 
-// Writes one record, with a payload that stands at `from`, at the cursor `at`, and returns the cursor after it.
-// Helper: the payload must be there and have at most 65,533 bytes, and `records` space for four more than it has.
+// Writes one record, with a length field of this width and a payload that stands at `from`, at the cursor `at`, and returns the cursor
+// after it.
+// Helper: the payload must be there, the field able to state its length, and `records` must have space for the record.
 pub fn put_record(
     payloads: &[u8],
     from: usize,
     size: usize,
+    width: usize,
     number: u16,
     records: &mut [u8],
     at: usize,
 ) -> usize
-    requires { ⌜ (from + size ≤ length (now payloads)) × (at + (4 + size) ≤ length (now records)) × (size ≤ mtuLimit) ⌝ }
-    ensures { λ r. ⌜ (r ≡ at + (4 + size))
-        × (now (records .exit) ≡ sets (now (records .entry)) at (recordBytes lengthWidth (record { number = number; payload = take size (drop from (now (payloads .entry))) }))) ⌝ }
+    requires { ⌜ Recordable (now payloads) from size width (now records) at ⌝ }
+    ensures { λ r. ⌜ Put (now (records .entry)) (now (records .exit)) at r (recordBytes width (record { number = number; payload = take size (drop from (now (payloads .entry))) })) ⌝ }
 {
-    let body = train::put_record_head(records, at, number, size as u16);
+    let body = train::put_record_head(records, at, width, number, size);
     base::copy_bytes(payloads, from, size, records, body)
 }
 

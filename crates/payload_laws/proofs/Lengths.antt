@@ -11,8 +11,8 @@ use Rattle.obu.specs.Laws.{Bytes}
 use Rattle.obu.specs.declared.Obu.{Obu}
 use Rattle.packetizer.specs.Call.{sizesOf, unitPlan}
 use Rattle.packetizer.specs.Laws.{Sound}
+use Rattle.packetizer.specs.Records.{noPacket}
 use Rattle.packetizer.specs.declared.PacketMetadata.{PacketMetadata}
-use Rattle.aggregation.specs.Header.{noPacket}
 use Rattle.payloader.specs.Payload.{payload, payloadsFrom, payloadsOf}
 use Rattle.payloader.proofs.Packets.{mtu-least, packet-sound}
 use Rattle.payloader.proofs.Totals.{payload-length}

@@ -5,16 +5,17 @@ use mathlib.Core.List.{List, [], _∷_, map, flatMap}
 use lib.ListN.{replicate}
 use Rattle.base.specs.Answers.{Answer, given, refused}
 use Rattle.base.specs.Lists.{keep}
+use Rattle.base.specs.Streams.{streamFrom}
 use Rattle.leb128.specs.Field.{fieldIn, encodeIn}
 use Rattle.obu.specs.Front.{frontOf, headed}
-use Rattle.obu.specs.Unit.{scanFrom, listed}
+use Rattle.obu.specs.Unit.{listed}
 use Rattle.packetizer.specs.Fragment.{largestFragment}
 use Rattle.packetizer.specs.Plan.{chargeOf, isFull, needOf, fragmentOf, spread, insert, place, planFrom, planOf}
 use Rattle.packetizer.specs.Elements.{elementsFrom}
 use Rattle.packetizer.specs.Call.{planAnswer}
 use Rattle.aggregation.specs.Header.{nOf, byteOf}
 use Rattle.payloader.specs.Payload.{fielded, payload, payloadsFrom, payloadsOf}
-use Rattle.payloader.specs.Call.{payloadAnswer}
+use Rattle.payloader.specs.Call.{toWrite, payloadAnswer}
 use Rattle.payloader.specs.declared.Payloads.{Payloads}
 
 -- what the payload call gives, or why it refuses, with ample lists and output
@@ -31,7 +32,7 @@ row : ℕ → List ℕ → Answer (List (List ℕ)) → Row
 row mtu unit result = record { mtu = mtu; unit = unit; result = result }
 
 pub answered : Row → Answer (List (List ℕ))
-answered r = byAnswer (payloadsOf (r .mtu) (r .unit)) (payloadAnswer (r .mtu) (r .unit) (replicate 40 0) (replicate 40 0) (replicate 40 0))
+answered r = byAnswer (payloadsOf (r .mtu) (r .unit)) (payloadAnswer (toWrite (r .mtu) (r .unit) (replicate 40 0) (replicate 40 0) (replicate 40 0)))
 
 -- U1 to U6, U8 to U10, U12 to U16
 pub rows : List Row
@@ -53,5 +54,5 @@ rows =
     ∷ []
 
 pub table : map answered rows ≡ map (λ (r : Row). r .result) rows
-unfolding answered byAnswer row rows payloadAnswer planAnswer listed scanFrom frontOf headed fieldIn keep encodeIn planOf planFrom place insert spread fragmentOf needOf isFull chargeOf largestFragment elementsFrom nOf byteOf fielded payload payloadsFrom flatMap
+unfolding answered byAnswer row rows payloadAnswer planAnswer listed streamFrom frontOf headed fieldIn keep encodeIn planOf planFrom place insert spread fragmentOf needOf isFull chargeOf largestFragment elementsFrom nOf byteOf fielded payload payloadsFrom flatMap
 table = refl

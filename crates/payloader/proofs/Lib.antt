@@ -1,6 +1,5 @@
 -- What the proofs of the functions, and of callers, cite.
 pub mod Parts
-pub mod Units
 pub mod Bodies
 pub mod Packets
 pub mod Totals

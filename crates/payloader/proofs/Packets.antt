@@ -3,29 +3,39 @@ use mathlib.Core.Path.{_≡_, refl, sym, ap, ap₂, _∙_}
 use Prim.Native.Nat.{ℕ, _+_, _-_, _≤_, _<_}
 use native.Mathlib.Numerals.{add-one}
 use native.Mathlib.Omega.{arith}
-use mathlib.Core.List.{List, [], _∷_, append-nil}
-use mathlib.Core.Bool.{Bool}
+use mathlib.Core.List.{List, _∷_}
 use lib.ListN.{length, getD, set, length-map, length-set}
 use lib.Seq.{sets}
 use lib.Dec.{ltb, leb}
 use borrow.Author.Tests.{leb-true, leb-false}
 use Rattle.base.specs.Answers.{given}
+use Rattle.base.proofs.Storing.{storing-first}
 use Rattle.base.proofs.Tests.{split-on}
-use Rattle.leb128.specs.Field.{encode}
-use Rattle.obu.specs.Unit.{unitLimit, obusOf, flat}
+use Rattle.obu.specs.Unit.{unitLimit, obusOf}
+use Rattle.obu.specs.Records.{flat, obusIn}
+use Rattle.obu.specs.Laws.{Bytes}
 use Rattle.obu.specs.declared.Obu.{Obu}
-use Rattle.packetizer.specs.Plan.{leastMtu, mostCounted, flatPlan}
+use Rattle.obu.proofs.Records.{unit-flat}
+use Rattle.packetizer.specs.Plan.{leastMtu, mostCounted}
 use Rattle.packetizer.specs.Call.{sizesOf, unitPlan}
 use Rattle.packetizer.specs.Laws.{Sound}
+use Rattle.packetizer.specs.Records.{flatPlan, noPacket, packetsIn}
 use Rattle.packetizer.specs.declared.PacketMetadata.{PacketMetadata}
 use Rattle.packetizer.proofs.Planning.{plan-low}
 use Rattle.packetizer.proofs.Laws.{plan-sound}
 use Rattle.packetizer.proofs.Calls.{unit-small}
-use Rattle.aggregation.specs.Header.{noPacket, byteOf, headerOf}
-use Rattle.aggregation.specs.Flat.{obusIn, packetsIn}
-use Rattle.aggregation.proofs.Headers.{header-lent}
-use Rattle.payloader.specs.Payload.{payload}
-use Rattle.payloader.proofs.Bodies.{size-at, body, Writing}
+use Rattle.packetizer.proofs.Turns.{size-at}
+use Rattle.packetizer.proofs.Records.{packets-flat}
+use Rattle.aggregation.specs.Header.{byteOf, headerOf}
+use Rattle.aggregation.proofs.Headers.{alike, header-given}
+use Rattle.payloader.specs.Payload.{payload, payloadAt}
+use Rattle.payloader.specs.Inside.{Lent}
+use Rattle.payloader.proofs.Bodies.{body, Writing}
+
+-- what is written for the elements of a record
+abbrev pub elementsBy : List ℕ → PacketMetadata → List ℕ
+elementsBy unit p =
+    body unit (obusOf unit) (ltb mostCounted (p .«num_obu_elements»)) (p .«num_obu_elements») (p .«first_obu_index») (p .«first_obu_offset») (p .«last_obu_size»)
 
 module _ (mtu : ℕ) (unit : List ℕ) (k : ℕ) (small : length unit ≤ unitLimit) (there : k < length (unitPlan mtu unit)) where
   abbrev pub packet : PacketMetadata
@@ -45,22 +55,23 @@ module _ (mtu : ℕ) (unit : List ℕ) (k : ℕ) (small : length unit ≤ unitLi
 
   pub packet-header : headerOf (obusIn (flat (obusOf unit))) (packetsIn (flatPlan (unitPlan mtu unit))) k ≡ given (byteOf (obusOf unit) packet k)
   packet-header =
-      ap₂ (λ (x y : List ℕ). headerOf (obusIn x) (packetsIn y) k) (sym (append-nil (flat (obusOf unit)))) (sym (append-nil (flatPlan (unitPlan mtu unit))))
-      ∙ header-lent (obusOf unit) (unitPlan mtu unit) k there (packet-sound .some) (omega (arith, packet-sound .inside, count)) [] []
+      alike (obusOf unit) (unitPlan mtu unit) k
+      ∙ header-given (obusOf unit) (unitPlan mtu unit) k there (packet-sound .some) (omega (arith, packet-sound .inside, count))
 
-  abbrev pub hasField : Bool
-  hasField = ltb mostCounted (packet .«num_obu_elements»)
+  pub packet-headed : {obus plan : List ℕ} → Bytes unit → Lent mtu unit obus plan
+      → headerOf (obusIn obus) (packetsIn plan) k ≡ given (byteOf (obusIn obus) (getD (packetsIn plan) k noPacket) k)
+  packet-headed q l =
+      rw (l .obus-is, l .plan-is)
+      (packet-header
+      ∙ sym (ap₂ (λ (os : List Obu) (ps : List PacketMetadata). given (byteOf os (getD ps k noPacket) k)) (unit-flat unit q) (packets-flat (unitPlan mtu unit))))
 
-  abbrev pub elements : List ℕ
-  elements = body unit (obusOf unit) hasField (packet .«num_obu_elements») (packet .«first_obu_index») (packet .«first_obu_offset») (packet .«last_obu_size»)
-
-  pub payload-is : payload encode unit (obusOf unit) k packet ≡ byteOf (obusOf unit) packet k ∷ elements
+  pub payload-is : payloadAt mtu unit k ≡ byteOf (obusOf unit) packet k ∷ elementsBy unit packet
   unfolding payload
   payload-is = refl
 
   -- the loop over the elements begins
-  pub writing-first : (out : List ℕ) (at : ℕ) → at + length (payload encode unit (obusOf unit) k packet) ≤ length out
-      → Writing unit (obusOf unit) hasField (packet .«last_obu_size») elements (set out at (byteOf (obusOf unit) packet k)) (at + 1) (set out at (byteOf (obusOf unit) packet k)) (packet .«first_obu_index») (packet .«first_obu_offset») (packet .«num_obu_elements») (at + 1)
+  pub writing-first : (out : List ℕ) (at : ℕ) → at + length (payloadAt mtu unit k) ≤ length out
+      → Writing unit (obusOf unit) (ltb mostCounted (packet .«num_obu_elements»)) (packet .«last_obu_size») (elementsBy unit packet) (set out at (byteOf (obusOf unit) packet k)) (at + 1) (set out at (byteOf (obusOf unit) packet k)) (packet .«first_obu_index») (packet .«first_obu_offset») (packet .«num_obu_elements») (at + 1)
   writing-first out at room =
       let s = packet-sound in
       record {
@@ -68,12 +79,14 @@ module _ (mtu : ℕ) (unit : List ℕ) (k : ℕ) (small : length unit ≤ unitLi
         inside = omega (arith, s .inside, count);
         begins = rw (size-at (obusOf unit) (packet .«first_obu_index»)) at (s .from);
         fits = rw (size-at (obusOf unit) (packet .«first_obu_index» + packet .«num_obu_elements» - 1)) at (s .within);
-        same = refl;
         room = rw (length-set out at (byteOf (obusOf unit) packet k)) (omega (arith, ap length payload-is));
-        ends = refl;
-        to = refl;
+        storing = storing-first (set out at (byteOf (obusOf unit) packet k)) (at + 1) (elementsBy unit packet);
       }
 
   -- ---- and what it ends with
-  pub packet-written : (out : List ℕ) (at : ℕ) → sets (set out at (byteOf (obusOf unit) packet k)) (at + 1) elements ≡ sets out at (payload encode unit (obusOf unit) k packet)
-  packet-written out at = rw (payload-is, add-one at)
+  pub packet-written : (p : PacketMetadata) (h : ℕ) → p ≡ packet → h ≡ byteOf (obusOf unit) packet k → (out : List ℕ) (at : ℕ) {out′ : List ℕ} {end : ℕ}
+      → (end ≡ at + 1 + length (elementsBy unit p)) × (out′ ≡ sets (set out at h) (at + 1) (elementsBy unit p))
+      → (end ≡ at + length (payloadAt mtu unit k)) × (out′ ≡ sets out at (payloadAt mtu unit k))
+  packet-written p h e f out at r =
+      let t = rw (e, f) at r in
+      (t .0 ∙ omega (arith, ap length payload-is), t .1 ∙ rw (payload-is, add-one at))

@@ -4,10 +4,11 @@ use Prim.Native.Nat.{ℕ, _+_, _-_, _≤_, _<_, min}
 use native.Mathlib.Omega.{arith}
 use mathlib.Core.List.{List, _∷_, _++_}
 use lib.ListN.{length, getD, take, drop, length-drop}
-use lib.Seq.{take-all, take-take, drop-drop}
+use lib.Seq.{take-all, take-take, drop-drop, sets, sets-eq}
 use lib.Dec.{leb}
 use borrow.Author.Tests.{eq-eqb, leb-true, leb-false}
-use Rattle.base.proofs.Lists.{take-drop, take-append, drop-append}
+use Rattle.base.specs.Lists.{replaced}
+use Rattle.base.proofs.Lists.{take-drop, take-append, drop-append, sets-append}
 use Rattle.base.proofs.Tests.{split-on}
 use Rattle.obu.specs.Header.{headerSize, extensionBit, cleared}
 use Rattle.obu.specs.Wire.{extensionBytes, payloadOf, sent}
@@ -63,3 +64,8 @@ part-split unit o from n h =
     ∙ take-append n (drop from (headOf o)) (drop (from - length (headOf o)) (payloadOf unit o))
     ∙ rw (take-min n (drop from (headOf o)), d, l, m)
     (ap (λ (x : List ℕ). take (inHead o from n) (drop from (headOf o)) ++ x) (payload-part unit o (n - inHead o from n) (from - hs) (omega arith))))
+
+-- a part stored behind what is stored already
+pub put-behind : (out l part : List ℕ) (at : ℕ) {next : ℕ} {out₁ out₂ : List ℕ} → at + length l ≤ length out → next ≡ at + length l → out₁ ≡ replaced out at l
+    → out₂ ≡ sets out₁ next part → out₂ ≡ sets out at (l ++ part)
+put-behind out l part at room e f g = g ∙ rw (f, e, ← sets-eq l out at room) (sym (sets-append out at l part))

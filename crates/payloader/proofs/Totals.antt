@@ -1,5 +1,5 @@
 -- How many bytes payloads take, and all payloads one after the other. Assumes nothing.
-use mathlib.Core.Path.{_≡_, refl, sym, ap, ap₂, _∙_}
+use mathlib.Core.Path.{_≡_, refl, sym, ap, ap₂, subst, _∙_}
 use Prim.Native.Nat.{ℕ, zero, suc, _+_, _-_, _≤_, _<_}
 use native.Mathlib.Nat.{add-zero}
 use native.Mathlib.Numerals.{add-one}
@@ -10,23 +10,26 @@ use lib.ListN.{length, getD, drop, length-append, length-map, drop-of-length-le}
 use lib.Seq.{drop-cons, sets}
 use lib.Dec.{ltb, eqb}
 use borrow.Author.Tests.{ne-eqb}
-use Rattle.base.proofs.Lists.{sets-append}
+use Rattle.base.specs.Lists.{joined}
+use Rattle.base.proofs.Storing.{Storing, storing-first, storing-next, storing-done}
 use Rattle.base.proofs.Tests.{by-cond}
 use Rattle.leb128.specs.Field.{encode}
 use Rattle.obu.specs.Unit.{unitLimit, obusOf}
-use Rattle.obu.specs.Laws.{Bytes}
+use Rattle.obu.specs.Laws.{Bytes, Lies}
+use Rattle.obu.specs.Records.{noObu}
 use Rattle.obu.specs.declared.Obu.{Obu}
+use Rattle.obu.proofs.Records.{obu-lies}
 use Rattle.packetizer.specs.Fragment.{fieldSize}
 use Rattle.packetizer.specs.Plan.{mostCounted}
 use Rattle.packetizer.specs.Elements.{elementsFrom, elementsOf, elementBytes, fieldBytes}
-use Rattle.packetizer.specs.Call.{sizesOf, unitPlan}
+use Rattle.packetizer.specs.Call.{sizesOf, unitPlan, sizes}
 use Rattle.packetizer.specs.Laws.{Sound}
+use Rattle.packetizer.specs.Records.{noPacket}
 use Rattle.packetizer.specs.declared.PacketMetadata.{PacketMetadata}
 use Rattle.packetizer.proofs.Bodies.{elements-count}
-use Rattle.aggregation.specs.Header.{noObu, noPacket}
-use Rattle.payloader.specs.Payload.{payload, payloadsFrom, plannedBytes, payloadsOf, joined}
-use Rattle.payloader.proofs.Units.{Lies, obu-lies}
-use Rattle.payloader.proofs.Bodies.{sizes, size-at, part, part-length, body, body-two, body-last}
+use Rattle.packetizer.proofs.Turns.{size-at}
+use Rattle.payloader.specs.Payload.{payloadAt, payloadsFrom, plannedBytes, payloadsOf}
+use Rattle.payloader.proofs.Bodies.{part, part-length, body, body-two, body-last}
 use Rattle.payloader.proofs.Packets.{packet-sound, payload-is}
 
 -- ---- what a plan says, from packet k on
@@ -109,7 +112,7 @@ module _ (mtu : ℕ) (unit : List ℕ) where
   abbrev pub rest : ℕ → List ℕ
   rest k = joined (payloadsFrom encode unit (obusOf unit) k (drop k (unitPlan mtu unit)))
 
-  pub rest-step : (k : ℕ) → k < length (unitPlan mtu unit) → rest k ≡ payload encode unit (obusOf unit) k (getD (unitPlan mtu unit) k noPacket) ++ rest (k + 1)
+  pub rest-step : (k : ℕ) → k < length (unitPlan mtu unit) → rest k ≡ payloadAt mtu unit k ++ rest (k + 1)
   unfolding payloadsFrom flatMap
   rest-step k h = rw (drop-cons (unitPlan mtu unit) k noPacket h, add-one k)
 
@@ -121,48 +124,36 @@ module _ (mtu : ℕ) (unit : List ℕ) where
 
   pub record Sending (out₀ out : List ℕ) (k at : ℕ) : Type 0 where
     pub inside : k ≤ length (unitPlan mtu unit)
-    pub same : length out ≡ length out₀
-    pub ends : at + length (rest k) ≡ length (rest 0)
-    pub to : sets out at (rest k) ≡ sets out₀ 0 (rest 0)
+    pub storing : Storing out₀ 0 (rest 0) out at (rest k)
 
   pub sending-first : (out : List ℕ) → Sending out out 0 0
-  sending-first out = record { inside = omega arith; same = refl; ends = omega arith; to = refl }
+  sending-first out = record { inside = omega arith; storing = storing-first out 0 (rest 0) }
 
   module _ (out₀ out : List ℕ) (k at : ℕ) (w : Sending out₀ out k at) (h : k < length (unitPlan mtu unit)) where
-    now-payload : List ℕ
-    now-payload = payload encode unit (obusOf unit) k (getD (unitPlan mtu unit) k noPacket)
+    step-length : length (rest k) ≡ length (payloadAt mtu unit k) + length (rest (k + 1))
+    step-length = ap length (rest-step k h) ∙ length-append (payloadAt mtu unit k) (rest (k + 1))
 
-    step-length : length (rest k) ≡ length now-payload + length (rest (k + 1))
-    unfolding now-payload
-    step-length = ap length (rest-step k h) ∙ length-append (payload encode unit (obusOf unit) k (getD (unitPlan mtu unit) k noPacket)) (rest (k + 1))
+    pub sending-room : length (rest 0) ≤ length out₀ → at + length (payloadAt mtu unit k) ≤ length out
+    sending-room r = omega (arith, step-length, w .storing .ends, w .storing .same)
 
-    pub sending-room : length (rest 0) ≤ length out₀ → at + length (payload encode unit (obusOf unit) k (getD (unitPlan mtu unit) k noPacket)) ≤ length out
-    unfolding now-payload
-    sending-room r = omega (arith, step-length, w .ends, w .same)
-
-    pub sending-next : (out′ : List ℕ) (at′ : ℕ) → length out′ ≡ length out → at′ ≡ at + length (payload encode unit (obusOf unit) k (getD (unitPlan mtu unit) k noPacket))
-        → out′ ≡ sets out at (payload encode unit (obusOf unit) k (getD (unitPlan mtu unit) k noPacket)) → Sending out₀ out′ (k + 1) at′
-    unfolding now-payload
-    sending-next out′ at′ l e r =
+    pub sending-next : (out′ : List ℕ) (at′ : ℕ) → at′ ≡ at + length (payloadAt mtu unit k)
+        → out′ ≡ sets out at (payloadAt mtu unit k) → Sending out₀ out′ (k + 1) at′
+    sending-next out′ at′ e r =
         record {
           inside = omega arith;
-          same = l ∙ w .same;
-          ends = omega (arith, step-length, w .ends);
-          to =
-              rw (r, e)
-              (sym (sets-append out at (payload encode unit (obusOf unit) k (getD (unitPlan mtu unit) k noPacket)) (rest (k + 1)))
-              ∙ ap (sets out at) (sym (rest-step k h))
-              ∙ w .to);
+          storing =
+              storing-next (payloadAt mtu unit k) (rest (k + 1)) (subst (Storing out₀ 0 (rest 0) out at) (rest-step k h) (w .storing))
+              (record { cursor = e; stored = r });
         }
 
   pub sending-last : (out₀ out : List ℕ) (k at : ℕ) → Sending out₀ out k at → length (unitPlan mtu unit) ≤ k → out ≡ sets out₀ 0 (rest 0)
-  sending-last out₀ out k at w h = rw (rest-end k h) at (w .to)
+  sending-last out₀ out k at w h = storing-done (subst (Storing out₀ 0 (rest 0) out at) (rest-end k h) (w .storing)) .stored
 
 -- ---- a payload is a byte longer than its packet size (P13)
 
 module _ (mtu : ℕ) (unit : List ℕ) (small : length unit ≤ unitLimit) (bytes : Bytes unit) where
   pub payload-length : (k : ℕ) → k < length (unitPlan mtu unit)
-      → length (payload encode unit (obusOf unit) k (getD (unitPlan mtu unit) k noPacket)) ≡ getD (unitPlan mtu unit) k noPacket .«packet_size» + 1
+      → length (payloadAt mtu unit k) ≡ getD (unitPlan mtu unit) k noPacket .«packet_size» + 1
   payload-length k there =
       let p = getD (unitPlan mtu unit) k noPacket in
       let s : Sound (mtu - 1) (sizesOf unit) p = packet-sound mtu unit k small there in
@@ -187,7 +178,7 @@ module _ (mtu : ℕ) (unit : List ℕ) (small : length unit ≤ unitLimit) (byte
   rest-length (suc n) k e =
       let h : k < length (unitPlan mtu unit) = omega arith in
       ap length (rest-step mtu unit k h)
-      ∙ length-append (payload encode unit (obusOf unit) k (getD (unitPlan mtu unit) k noPacket)) (rest mtu unit (k + 1))
+      ∙ length-append (payloadAt mtu unit k) (rest mtu unit (k + 1))
       ∙ ap₂ _+_ (payload-length k h) (rest-length n (k + 1) (omega arith))
       ∙ sym (bytes-step (unitPlan mtu unit) k h)
 

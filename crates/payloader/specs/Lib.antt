@@ -1,3 +1,4 @@
 pub mod Payload
 pub mod Call
 pub mod Paper
+pub mod Inside

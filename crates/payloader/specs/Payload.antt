@@ -1,18 +1,20 @@
 -- The payload of a packet, over the writer of lengths (Y1 to Y5).
 use Prim.Native.Nat.{ℕ, _+_}
-use mathlib.Core.List.{List, [], _∷_, _++_, map, flatMap}
+use mathlib.Core.List.{List, [], _∷_, _++_, map}
 use mathlib.Core.Bool.{Bool, cond}
 use lib.ListN.{length, getD, take, drop}
 use lib.Dec.{ltb}
 use Rattle.leb128.specs.Field.{encode}
 use Rattle.obu.specs.Unit.{obusOf}
 use Rattle.obu.specs.Wire.{sent}
+use Rattle.obu.specs.Records.{noObu}
 use Rattle.obu.specs.declared.Obu.{Obu}
 use Rattle.packetizer.specs.Plan.{mostCounted}
-use Rattle.packetizer.specs.Call.{unitPlan}
+use Rattle.packetizer.specs.Records.{noPacket}
+use Rattle.packetizer.specs.Call.{sizes, unitPlan}
 use Rattle.packetizer.specs.Elements.{Element, elementsOf}
 use Rattle.packetizer.specs.declared.PacketMetadata.{PacketMetadata}
-use Rattle.aggregation.specs.Header.{noObu, byteOf}
+use Rattle.aggregation.specs.Header.{byteOf}
 
 -- Y2, Y3: an element is a part of what is sent of its OBU
 abbrev pub partOf : List ℕ → List Obu → Element → List ℕ
@@ -32,21 +34,21 @@ unfoldable pub payload : (ℕ → List ℕ) → List ℕ → List Obu → ℕ �
 payload write unit obus k p =
     byteOf obus p k
     ∷ fielded write (ltb mostCounted (p .«num_obu_elements»))
-    (partsOf unit obus (elementsOf (map (λ (o : Obu). o .size) obus) p))
+    (partsOf unit obus (elementsOf (sizes obus) p))
 
 -- Y5: those of packet k and all after it, one after the other
 unfoldable pub payloadsFrom : (ℕ → List ℕ) → List ℕ → List Obu → ℕ → List PacketMetadata → List (List ℕ)
 payloadsFrom write unit obus k [] = []
 payloadsFrom write unit obus k (p ∷ ps) = payload write unit obus k p ∷ payloadsFrom write unit obus (k + 1) ps
 
-abbrev pub joined : List (List ℕ) → List ℕ
-joined payloads = flatMap (λ (l : List ℕ). l) payloads
-
 -- P13: what a plan says they take together, a byte more than each packet size
 unfoldable pub plannedBytes : List PacketMetadata → ℕ
 plannedBytes [] = 0
 plannedBytes (p ∷ ps) = p .«packet_size» + 1 + plannedBytes ps
 
--- the payloads of a unit, with shortest size fields (F4)
+-- the payload of packet k of a unit, and all of them, with shortest size fields (F4)
+abbrev pub payloadAt : ℕ → List ℕ → ℕ → List ℕ
+payloadAt mtu unit k = payload encode unit (obusOf unit) k (getD (unitPlan mtu unit) k noPacket)
+
 abbrev pub payloadsOf : ℕ → List ℕ → List (List ℕ)
 payloadsOf mtu unit = payloadsFrom encode unit (obusOf unit) 0 (unitPlan mtu unit)

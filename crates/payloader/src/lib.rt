@@ -1,26 +1,23 @@
 // The payload bytes of a unit's packets (Y1 to Y5): list and plan, the test of space, and then packet after packet.
-use aggregation::HeaderAnswer;
 use base::Refusal;
 use obu::Obu;
 use packetizer::PlanAnswer;
 ghost use mathlib.Core.Path.{_≡_};
-ghost use Prim.Native.Nat.{ℕ, _+_, _-_, _*_, _/_, _^_, _≤_, _<_};
-ghost use mathlib.Core.Bool.{Bool, cond};
-ghost use mathlib.Core.List.{List, [], _∷_, _++_};
+ghost use Prim.Native.Nat.{_+_, _-_, _^_, _≤_, _<_};
+ghost use mathlib.Core.Bool.{cond};
+ghost use mathlib.Core.List.{[], _∷_, _++_};
 ghost use lib.ListN.{length, getD, take, drop};
 ghost use lib.Seq.{sets};
+ghost use Rattle.base.specs.Lists.{joined};
 ghost use Rattle.leb128.specs.Field.{encode};
 ghost use Rattle.obu.specs.Header.{headerSize, cleared};
-ghost use Rattle.obu.specs.Unit.{unitLimit, obuNumbers, obusOf, flat};
 ghost use Rattle.obu.specs.Wire.{extensionBytes, sent};
-ghost use Rattle.packetizer.specs.Plan.{planNumbers, flatPlan};
-ghost use Rattle.packetizer.specs.Call.{mtuLimit, unitPlan, obusAfter, planAfter};
-ghost use Rattle.base.specs.Answers.{given};
-ghost use Rattle.aggregation.specs.Header.{noObu, noPacket, byteOf, headerOf};
-ghost use Rattle.aggregation.specs.Flat.{obusIn, packetsIn};
-ghost use Rattle.payloader.specs.Payload.{payload as payloadBytes, plannedBytes, payloadsOf, joined};
-ghost use Rattle.payloader.specs.Call.{payloadAnswer, outAfter};
+ghost use Rattle.obu.specs.Laws.{Lies};
+ghost use Rattle.packetizer.specs.Records.{packetsIn};
+ghost use Rattle.payloader.specs.Payload.{payloadAt, plannedBytes, payloadsOf};
+ghost use Rattle.payloader.specs.Call.{toWrite, leaves, writeUnit};
 ghost use Rattle.payloader.specs.Paper.{paper};
+ghost use Rattle.payloader.specs.Inside.{Lent, Writable};
 
 // What was written.
 pub struct Payloads {
@@ -40,21 +37,6 @@ fn beyond(a: usize, b: usize) -> usize
     ensures { λ r. ⌜ r ≡ a - b ⌝ }
 {
     if a < b { 0 } else { a - b }
-}
-
-// Record i of a flat OBU list.
-fn obu_at(obus: &[u32], i: usize) -> Obu
-    requires { ⌜ ((i + 1) * obuNumbers ≤ length (now obus)) × (getD (obusIn (now obus)) i noObu .header < 256) × (getD (obusIn (now obus)) i noObu .extension < 256) ⌝ }
-    ensures { λ r. ⌜ r ≡ getD (obusIn (now (obus .entry))) i noObu ⌝ }
-{
-    let at = i * obu::OBU_NUMBERS;
-    Obu {
-        header: obus[at] as u8,
-        extension: obus[at + 1] as u8,
-        start: obus[at + 2],
-        length: obus[at + 3],
-        size: obus[at + 4],
-    }
 }
 
 // Header byte i, as it is sent.
@@ -93,50 +75,27 @@ fn put_part(unit: &[u8], o: Obu, from: usize, n: usize, out: &mut [u8], at: usiz
     base::copy_bytes(unit, start, n - inside, out, at + inside)
 }
 
-// An element: n bytes of what is sent of OBU i, from one on, with its length in front where told to.
+// An element: n bytes of what is sent of an OBU, from one on, with its length in front where told to.
 fn put_element(
     unit: &[u8],
-    obus: &[u32],
-    i: usize,
+    o: Obu,
     from: usize,
     n: usize,
     field: bool,
     out: &mut [u8],
     at: usize,
 ) -> usize
-    requires { ⌜ (length (now unit) ≤ unitLimit) × (now obus ≡ flat (obusOf (now unit))) × (i < length (obusOf (now unit))) ⌝ }
-    requires { ⌜ from + n ≤ getD (obusOf (now unit)) i noObu .size ⌝ }
+    requires { ⌜ Lies (now unit) o ⌝ }
+    requires { ⌜ from + n ≤ o .size ⌝ }
     requires { ⌜ at + (length (cond field (encode n) []) + n) ≤ length (now out) ⌝ }
     ensures { λ r. ⌜ (r ≡ at + (length (cond field (encode n) []) + n))
-        × (now (out .exit) ≡ sets (now (out .entry)) at (cond field (encode n) [] ++ take n (drop from (sent (now (unit .entry)) (getD (obusOf (now (unit .entry))) i noObu))))) ⌝ }
+        × (now (out .exit) ≡ sets (now (out .entry)) at (cond field (encode n) [] ++ take n (drop from (sent (now (unit .entry)) o)))) ⌝ }
 {
-    let o = obu_at(obus, i);
     if field {
         let next = leb128::put_leb128(out, at, n as u32);
         return put_part(unit, o, from, n, out, next);
     }
     put_part(unit, o, from, n, out, at)
-}
-
-// The aggregation header of packet k.
-// Helper: the header call must give a header for packet k, and no refusal.
-pub fn header_byte(obus: &[u32], plan: &[u32], k: usize) -> u8
-    requires { ⌜ headerOf (obusIn (now obus)) (packetsIn (now plan)) k ≡ given (byteOf (obusIn (now obus)) (getD (packetsIn (now plan)) k noPacket) k) ⌝ }
-    ensures { λ r. ⌜ r ≡ byteOf (obusIn (now (obus .entry))) (getD (packetsIn (now (plan .entry))) k noPacket) k ⌝ }
-{
-    match aggregation::get_aggregation_header(obus, plan, k) {
-        HeaderAnswer::Header(header) => header,
-        HeaderAnswer::Refused(_) => 0,
-    }
-}
-
-// The size of OBU i.
-fn size_at(obus: &[u32], i: usize) -> usize
-    requires { ⌜ (i + 1) * obuNumbers ≤ length (now obus) ⌝ }
-    ensures { λ r. ⌜ r ≡ getD (obusIn (now (obus .entry))) i noObu .size ⌝ }
-{
-    let at = i * obu::OBU_NUMBERS + 4;
-    obus[at] as usize
 }
 
 // Writes packet k of a unit's plan at the cursor `at`, and returns the cursor after it.
@@ -149,35 +108,28 @@ fn write_packet(
     out: &mut [u8],
     at: usize,
 ) -> usize
-    requires { ⌜ (length (now unit) ≤ unitLimit) × (now obus ≡ flat (obusOf (now unit))) × (now plan ≡ flatPlan (unitPlan mtu (now unit))) × (k < length (unitPlan mtu (now unit))) ⌝ }
-    requires { ⌜ at + length (payloadBytes encode (now unit) (obusOf (now unit)) k (getD (unitPlan mtu (now unit)) k noPacket)) ≤ length (now out) ⌝ }
-    ensures { λ r. ⌜ (r ≡ at + length (payloadBytes encode (now (unit .entry)) (obusOf (now (unit .entry))) k (getD (unitPlan mtu (now (unit .entry))) k noPacket)))
-        × (now (out .exit) ≡ sets (now (out .entry)) at (payloadBytes encode (now (unit .entry)) (obusOf (now (unit .entry))) k (getD (unitPlan mtu (now (unit .entry))) k noPacket))) ⌝ }
+    requires { ⌜ Lent mtu (now unit) (now obus) (now plan) ⌝ }
+    requires { ⌜ Writable mtu (now unit) k (now out) at ⌝ }
+    ensures { λ r. ⌜ (r ≡ at + length (payloadAt mtu (now (unit .entry)) k))
+        × (now (out .exit) ≡ sets (now (out .entry)) at (payloadAt mtu (now (unit .entry)) k)) ⌝ }
 {
-    let p = aggregation::packet_at(plan, k);
-    out[at] = header_byte(obus, plan, k);
+    let p = packetizer::packet_at(plan, k);
+    out[at] = aggregation::header_byte(obus, plan, k);
     let mut cursor = at + 1;
     let mut left = p.num_obu_elements as usize;
     let mut i = p.first_obu_index as usize;
     let mut from = p.first_obu_offset as usize;
     while left > 1 {
-        let n = size_at(obus, i) - from;
-        cursor = put_element(unit, obus, i, from, n, true, out, cursor);
+        let o = obu::obu_at(obus, i);
+        cursor = put_element(unit, o, from, o.size as usize - from, true, out, cursor);
         i += 1;
         from = 0;
         left -= 1;
     }
+    let o = obu::obu_at(obus, i);
+    let n = p.last_obu_size as usize;
     let field = p.num_obu_elements > packetizer::MAX_NUM_OBUS_TO_OMIT_SIZE;
-    put_element(
-        unit,
-        obus,
-        i,
-        from,
-        p.last_obu_size as usize,
-        field,
-        out,
-        cursor,
-    )
+    put_element(unit, o, from, n, field, out, cursor)
 }
 
 // How many bytes the payloads of a plan take together.
@@ -189,7 +141,7 @@ fn planned_bytes(plan: &[u32]) -> usize
     let mut bytes: usize = 0;
     let mut k: usize = 0;
     while k < packets {
-        let p = aggregation::packet_at(plan, k);
+        let p = packetizer::packet_at(plan, k);
         bytes = bytes + (p.packet_size as usize + 1);
         k += 1;
     }
@@ -198,7 +150,7 @@ fn planned_bytes(plan: &[u32]) -> usize
 
 // Writes all packets of a unit's plan, one after the other.
 fn write_packets(mtu: usize, unit: &[u8], obus: &[u32], plan: &[u32], out: &mut [u8])
-    requires { ⌜ (length (now unit) ≤ unitLimit) × (now obus ≡ flat (obusOf (now unit))) × (now plan ≡ flatPlan (unitPlan mtu (now unit))) ⌝ }
+    requires { ⌜ Lent mtu (now unit) (now obus) (now plan) ⌝ }
     requires { ⌜ length (joined (payloadsOf mtu (now unit))) ≤ length (now out) ⌝ }
     ensures { λ _. ⌜ now (out .exit) ≡ sets (now (out .entry)) 0 (joined (payloadsOf mtu (now (unit .entry)))) ⌝ }
 {
@@ -219,10 +171,8 @@ pub fn payload(
     plan: &mut [u32],
     out: &mut [u8],
 ) -> PayloadAnswer
-    ensures { λ r. ⌜ (paper r ≡ payloadAnswer mtu (now (unit .entry)) (now (obus .entry)) (now (plan .entry)) (now (out .entry)))
-        × (now (obus .exit) ≡ obusAfter mtu (now (unit .entry)) (now (obus .entry)))
-        × (now (plan .exit) ≡ planAfter mtu (now (unit .entry)) (now (obus .entry)) (now (plan .entry)))
-        × (now (out .exit) ≡ outAfter mtu (now (unit .entry)) (now (obus .entry)) (now (plan .entry)) (now (out .entry))) ⌝ }
+    ensures { λ r. ⌜ leaves (paper r) (now (obus .exit)) (now (plan .exit)) (now (out .exit))
+        ≡ writeUnit (toWrite mtu (now (unit .entry)) (now (obus .entry)) (now (plan .entry)) (now (out .entry))) ⌝ }
 {
     match packetizer::plan_unit(mtu, unit, obus, plan) {
         PlanAnswer::Refused { refusal, at } => PayloadAnswer::Refused {
@@ -235,7 +185,7 @@ pub fn payload(
             let bytes = planned_bytes(&plan[..recorded]);
             if out.len() < bytes {
                 return PayloadAnswer::Refused {
-                    refusal: Refusal::OutputFull,
+                    refusal: Refusal::NoRoomForPayloads,
                     at: 0,
                 };
             }

@@ -1,28 +1,30 @@
 -- 14 is given to a packet that is not ahead and to no other (R14). Assumes nothing.
 --     fourteen-when    a packet that is not ahead gets 14, where neither 12 nor 13 comes before it
 --     fourteen-only    and no other does
-use mathlib.Core.Path.{_≡_, refl, subst}
-use Prim.Native.Nat.{ℕ, zero, suc, _+_, _-_, _≤_}
+use mathlib.Core.Path.{_≡_, refl, sym, subst}
+use Prim.Native.Nat.{ℕ, zero, suc, _-_, _≤_}
 use native.Mathlib.Omega.{arith}
 use mathlib.Core.List.{List, [], _∷_}
 use mathlib.Core.Bool.{Bool, true, false, not, _&&_, _||_}
 use lib.ListN.{length, drop}
 use lib.Dec.{eqb, ltb}
-use borrow.Author.Tests.{le-ltb, ne-eqb}
 use Rattle.base.specs.Answers.{Answer, given, refused}
+use Rattle.base.specs.Streams.{Stream, chained, whole}
 use Rattle.base.proofs.Tests.{by-cond, split-on}
+use Rattle.base.proofs.Streams.{After, stream-each}
 use Rattle.leb128.specs.Field.{Field, sized, unreadable, sizeField}
 use Rattle.obu.specs.Front.{Front, Seen, found, stopped, frontOf, spanOf}
 use Rattle.obu.specs.Wire.{wholeOf, handedOut, wire}
 use Rattle.obu.specs.Wire as obu
 use Rattle.element.specs.Header.{zBit, wOf, nBit}
-use Rattle.element.specs.Elements.{payloadLimit, payloadElements, elementsOf, counting, untilEnd, exactly, elementAt, counted, first, followed}
+use Rattle.element.specs.Elements.{payloadLimit, payloadElements, elementsOf, counting, elementBy, elementNext, readFrom, untilEnd, exactly, elementAt, counted, first, followed}
 use Rattle.element.specs.declared.Part.{Part}
+use Rattle.element.proofs.Laws.{element-some, whole-more}
 use Rattle.handing.specs.Handing.{fragmentLimit, before, wires}
 use Rattle.receiver.specs.Packet.{Packet, packetBy, packetOf}
-use Rattle.receiver.specs.Joining.{Held, Lost, ahead, lost, next, out}
-use Rattle.receiver.specs.Call.{Taken, fitted, opened, taken, heldIn, outcome, answered, receiveAnswer}
-use Rattle.receiver.specs.declared.State.{State}
+use Rattle.receiver.specs.Joining.{Label, Held, ahead, out}
+use Rattle.receiver.specs.Call.{Incoming, Taken, tooLong, fitted, leadsTo, wired, opened, taken, heldIn, Inputs, outcome, after, answered, received}
+use Rattle.receiver.proofs.Outcomes.{not-long, outcome-behind}
 
 -- it is not 14
 abbrev Other : {A : Type 0} → Answer A → Type 0
@@ -49,12 +51,18 @@ followed-other : (x : Answer Part) (f : ℕ → Answer (List Part)) → Other x 
 followed-other (given p) f h g = first-other p (f (p .next)) (g (p .next))
 followed-other (refused n at) f h g = h
 
-until-other : (l : List ℕ) (skip at : ℕ) → Other (untilEnd l skip at)
-unfolding untilEnd
-until-other [] skip at = tt
-until-other (b ∷ l) (suc skip) at = until-other l skip (at + 1)
-until-other (b ∷ l) zero at =
-    followed-other (elementAt true at (b ∷ l)) _ (element-other true at (b ∷ l)) (λ n. until-other l (n - at - 1) (at + 1))
+-- of a stream of elements
+abbrev WholeOther : List ℕ → ℕ → Stream Part (Answer (Unit {0})) → Type 0
+WholeOther l at s = Other (whole s)
+
+other-next : (at : ℕ) (l : List ℕ) (x : Answer Part) → Other x → After WholeOther readFrom l (elementBy at x)
+    → WholeOther l at (chained (elementBy at x) (λ n next. readFrom (drop n l) next))
+other-next at l (refused n a) h r = h
+other-next at l (given p) h r =
+    subst Other (sym (whole-more p (readFrom (drop (p .next - at) l) (p .next)))) (first-other p (untilEnd (drop (p .next - at) l) (p .next)) r)
+
+until-other : (l : List ℕ) (at : ℕ) → Other (untilEnd l at)
+until-other = stream-each elementNext (given tt) element-some WholeOther (λ at. tt) (λ at l h r. other-next at l (elementAt true at l) (element-other true at l) r)
 
 exactly-other : (n : ℕ) (l : List ℕ) (at : ℕ) → Other (exactly n l at)
 unfolding exactly
@@ -70,7 +78,7 @@ elements-other (h ∷ l) =
     (λ t. λ e. omega arith)
     (λ t.
     by-cond Other (eqb (wOf h) 0) _ _
-    (λ u. by-cond Other (eqb (length l) 0) _ _ (λ v. λ e. omega arith) (λ v. until-other l 0 1))
+    (λ u. by-cond Other (eqb (length l) 0) _ _ (λ v. λ e. omega arith) (λ v. until-other l 1))
     (λ u. exactly-other (wOf h) l 1))
 
 payload-other : (payload : List ℕ) → Other (payloadElements payload)
@@ -111,43 +119,43 @@ wires-other (o ∷ os) = before-other (wire o) (wires os) (wire-other o) (wires-
 
 -- ---- the call
 
-fitted-other : (space room : ℕ) (after : Held) (gone : Lost) (w : Answer (List ℕ)) → Other w → Other (fitted space room after gone w)
-fitted-other space room after gone (refused n at) h = h
-fitted-other space room after gone (given bytes) h =
-    by-cond Other (ltb space (length (after .fragment)) || ltb fragmentLimit (length (after .fragment))) _ _
-    (λ t. λ e. omega arith)
-    (λ t. by-cond Other (ltb room (length bytes)) _ _ (λ u. λ e. omega arith) (λ u. tt))
+fitted-other : (space room : ℕ) (t : Taken) → Other (fitted space room t)
+fitted-other space room t =
+    by-cond Other (tooLong space (length (t .held .fragment))) _ _
+    (λ e. λ z. omega arith)
+    (λ e. by-cond Other (ltb room (length (t .bytes))) _ _ (λ f. λ z. omega arith) (λ f. tt))
 
-opened-other : (space room : ℕ) (h : Held) (number : ℕ) (x : Answer Packet) → Other x → Other (opened space room h number x)
-opened-other space room h number (given p) k = fitted-other space room (next h number p) (lost h number p) (wires (out h number p)) (wires-other (out h number p))
-opened-other space room h number (refused n at) k = k
+wired-other : (space room : ℕ) (h : Held) (l : Label) (p : Packet) (w : Answer (List ℕ)) → Other w → Other (wired space room h l p w)
+wired-other space room h l p (given bytes) k = fitted-other space room (leadsTo h l p bytes)
+wired-other space room h l p (refused n at) k = k
 
-taken-other : (space room : ℕ) (h : Held) (number : ℕ) (payload : List ℕ) → ahead h number ≡ true → Other (taken space room h number payload)
+opened-other : (space room : ℕ) (h : Held) (l : Label) (x : Answer Packet) → Other x → Other (opened space room h l x)
+opened-other space room h l (given p) k = wired-other space room h l p (wires (out h l p)) (wires-other (out h l p))
+opened-other space room h l (refused n at) k = k
+
+taken-other : (space room : ℕ) (h : Held) (p : Incoming) → ahead h (p .label) ≡ true → Other (taken space room h p)
 unfolding taken
-taken-other space room h number payload t =
+taken-other space room h p t =
     rw t
-    (by-cond Other (eqb (length payload) 0 || ltb payloadLimit (length payload)) _ _
+    (by-cond Other (eqb (length (p .payload)) 0 || ltb payloadLimit (length (p .payload))) _ _
     (λ u. λ e. omega arith)
-    (λ u. opened-other space room h number (packetOf payload) (packet-other payload (payloadElements payload) (payload-other payload))))
+    (λ u. opened-other space room h (p .label) (packetOf (p .payload)) (packet-other (p .payload) (payloadElements (p .payload)) (payload-other (p .payload)))))
 
-answered-other : (x : Answer Taken) → Other x → Other (answered x)
-answered-other (given t) h = tt
-answered-other (refused n at) h = h
+module _ (i : Inputs) where
+  after-other : (x : Answer Taken) → Other x → Other (answered (after x (i .store) (i .output) .answer))
+  after-other (given t) h = tt
+  after-other (refused n at) h = h
 
-pub fourteen-only : (state : State) (number : ℕ) (payload store output : List ℕ) (at : ℕ)
-    → receiveAnswer state number payload store output ≡ refused 14 at → ahead (heldIn state store) number ≡ false
-unfolding outcome
-fourteen-only state number payload store output at =
-    by-cond (λ (x : Answer Taken). answered x ≡ refused 14 at → ahead (heldIn state store) number ≡ false)
-    (ltb (length store) (state .«open») || ltb fragmentLimit (state .«open»)) _ _
-    (λ t e. absurd (subst Other e (λ z. omega arith) refl))
-    (λ t e. split-on (ahead (heldIn state store) number)
-    (λ u. absurd (subst Other e (answered-other (taken (length store) (length output) (heldIn state store) number payload) (taken-other (length store) (length output) (heldIn state store) number payload u)) refl))
-    (λ u. u))
+  pub fourteen-only : (at : ℕ) → received i .answer ≡ refused 14 at → ahead (heldIn (i .state) (i .store)) (i .packet .label) ≡ false
+  unfolding outcome
+  fourteen-only at =
+      by-cond (λ (x : Answer Taken). answered (after x (i .store) (i .output) .answer) ≡ refused 14 at → ahead (heldIn (i .state) (i .store)) (i .packet .label) ≡ false)
+      (tooLong (length (i .store)) (i .state .«open»)) _ _
+      (λ t e. absurd (subst Other e (λ z. omega arith) refl))
+      (λ t e. split-on (ahead (heldIn (i .state) (i .store)) (i .packet .label))
+      (λ u. absurd (subst Other e (after-other (taken (length (i .store)) (length (i .output)) (heldIn (i .state) (i .store)) (i .packet)) (taken-other (length (i .store)) (length (i .output)) (heldIn (i .state) (i .store)) (i .packet) u)) refl))
+      (λ u. u))
 
-pub fourteen-when : (state : State) (number : ℕ) (payload store output : List ℕ)
-    → state .«open» ≤ length store → state .«open» ≤ fragmentLimit → 1 ≤ length payload → length payload ≤ payloadLimit
-    → ahead (heldIn state store) number ≡ false → receiveAnswer state number payload store output ≡ refused 14 0
-unfolding outcome taken
-fourteen-when state number payload store output h k l m e =
-    rw (le-ltb (length store) (state .«open») h, le-ltb fragmentLimit (state .«open») k, ne-eqb (length payload) 0 (λ z. omega arith), le-ltb payloadLimit (length payload) m, e)
+  pub fourteen-when : i .state .«open» ≤ length (i .store) → i .state .«open» ≤ fragmentLimit → 1 ≤ length (i .packet .payload) → length (i .packet .payload) ≤ payloadLimit
+      → ahead (heldIn (i .state) (i .store)) (i .packet .label) ≡ false → received i .answer ≡ refused 14 0
+  fourteen-when h k l m e = rw (outcome-behind i (not-long h k) (λ z. omega arith) m _ refl e)

@@ -3,7 +3,6 @@
 --     taken-behind     one that is not ahead is refused by 14
 --                      (Behind: and no other is)
 --     taken-fits       what is taken has room
---     outcome-held     a state that is possible is what it holds
 --     Holding          state and store hold something: outcome-holding, holding-next, holding-fresh
 --     held-again       state and store, as a call leaves them, hold what the call leads to
 --     answer-within    what goes out is within the output
@@ -12,7 +11,7 @@ use mathlib.Core.Path.{_≡_, refl, ap, subst, _∙_}
 use Prim.Native.Nat.{ℕ, _≤_}
 use native.Mathlib.Omega.{arith}
 use mathlib.Core.List.{List}
-use mathlib.Core.Bool.{Bool, true, false, cond, _||_}
+use mathlib.Core.Bool.{true, false, cond, _||_}
 use lib.ListN.{length, drop}
 use lib.Seq.{take-append-seam}
 use lib.Dec.{eqb, ltb}
@@ -26,35 +25,35 @@ use Rattle.handing.specs.Handing.{fragmentLimit, wires}
 use Rattle.handing.proofs.Cursors.{payload-some, payload-small}
 use Rattle.handing.proofs.Lists.{front-length}
 use Rattle.receiver.specs.Packet.{Packet, packetBy, packetOf}
-use Rattle.receiver.specs.Joining.{Held, Lost, fresh, ahead, lost, next, out}
-use Rattle.receiver.specs.Call.{Taken, fitted, opened, taken, heldIn, stateOf, outcome, answered, receiveAnswer, storeBy, outputBy, storeAfter, outputAfter}
-use Rattle.receiver.specs.declared.State.{State}
+use Rattle.receiver.specs.Joining.{Label, Held, fresh, ahead, next, out}
+use Rattle.receiver.specs.Call.{Incoming, Taken, tooLong, fitted, leadsTo, wired, opened, taken, heldIn, stateOf, Inputs, outcome, after, answered, received}
 use Rattle.receiver.specs.declared.Received.{Received}
+use Rattle.receiver.proofs.Outcomes.{not-long, long-not, outcome-held}
 use Rattle.receiver.proofs.Takes.{fitted-all}
 
 -- ---- a packet that was read
 
-module _ (space room : ℕ) (h : Held) (number : ℕ) (payload : List ℕ) (p : Packet) (read : packetOf payload ≡ given p) where
-  fits : (1 ≤ length payload) × (length payload ≤ payloadLimit)
-  fits = go (payloadElements payload) refl read
+module _ (space room : ℕ) (h : Held) (p : Incoming) (q : Packet) (read : packetOf (p .payload) ≡ given q) where
+  fits : (1 ≤ length (p .payload)) × (length (p .payload) ≤ payloadLimit)
+  fits = go (payloadElements (p .payload)) refl read
     where
-      go : (x : Answer (List Part)) → payloadElements payload ≡ x → packetBy payload x ≡ given p → (1 ≤ length payload) × (length payload ≤ payloadLimit)
-      go (given ps) e q = (payload-some payload ps e, payload-small payload ps e)
-      go (refused n at) e q = let z : _≡_ {A = ℕ} 0 1 = cc in absurd (omega arith)
+      go : (x : Answer (List Part)) → payloadElements (p .payload) ≡ x → packetBy (p .payload) x ≡ given q → (1 ≤ length (p .payload)) × (length (p .payload) ≤ payloadLimit)
+      go (given ps) e f = (payload-some (p .payload) ps e, payload-small (p .payload) ps e)
+      go (refused n at) e f = let z : _≡_ {A = ℕ} 0 1 = cc in absurd (omega arith)
 
-  by-ahead : taken space room h number payload
-      ≡ cond (ahead h number) (fitted space room (next h number p) (lost h number p) (wires (out h number p))) (refused 14 0)
+  by-ahead : taken space room h p
+      ≡ cond (ahead h (p .label)) (wired space room h (p .label) q (wires (out h (p .label) q))) (refused 14 0)
   unfolding taken
   by-ahead =
-      rw (ne-eqb (length payload) 0 (λ e. omega (arith, fits)), le-ltb payloadLimit (length payload) (fits .1), read)
+      rw (ne-eqb (length (p .payload)) 0 (λ e. omega (arith, fits)), le-ltb payloadLimit (length (p .payload)) (fits .1), read)
 
-  pub taken-behind : ahead h number ≡ false → taken space room h number payload ≡ refused 14 0
+  pub taken-behind : ahead h (p .label) ≡ false → taken space room h p ≡ refused 14 0
   taken-behind t = by-ahead ∙ rw t
 
-  pub taken-all : ahead h number ≡ true → (bytes : List ℕ) → wires (out h number p) ≡ given bytes
-      → length (next h number p .fragment) ≤ space → length (next h number p .fragment) ≤ fragmentLimit → length bytes ≤ room
-      → taken space room h number payload ≡ given (record { held = next h number p; bytes = bytes; lost = lost h number p })
-  taken-all t bytes w a b c = by-ahead ∙ rw (t, w) (fitted-all space room (next h number p) (lost h number p) bytes a b c)
+  pub taken-all : ahead h (p .label) ≡ true → (bytes : List ℕ) → wires (out h (p .label) q) ≡ given bytes
+      → length (next h (p .label) q .fragment) ≤ space → length (next h (p .label) q .fragment) ≤ fragmentLimit → length bytes ≤ room
+      → taken space room h p ≡ given (leadsTo h (p .label) q bytes)
+  taken-all t bytes w a b c = by-ahead ∙ rw (t, w) (fitted-all space room (leadsTo h (p .label) q bytes) (not-long a b) c)
 
 -- ---- what is taken has room
 
@@ -62,68 +61,59 @@ abbrev Fits : ℕ → ℕ → Answer Taken → Type 0
 Fits space room (given t) = (length (t .held .fragment) ≤ space) × (length (t .held .fragment) ≤ fragmentLimit) × (length (t .bytes) ≤ room)
 Fits space room (refused n at) = Unit {0}
 
-fitted-fits : (space room : ℕ) (after : Held) (gone : Lost) (w : Answer (List ℕ)) → Fits space room (fitted space room after gone w)
-fitted-fits space room after gone (refused n at) = tt
-fitted-fits space room after gone (given bytes) = go (ltb space n) refl (ltb fragmentLimit n) refl (ltb room (length bytes)) refl
-  where
-    n : ℕ
-    n = length (after .fragment)
+fitted-fits : (space room : ℕ) (t : Taken) → Fits space room (fitted space room t)
+fitted-fits space room t =
+    by-cond (Fits space room) (tooLong space (length (t .held .fragment))) _ _
+    (λ e. tt)
+    (λ e. let f = long-not e in by-cond (Fits space room) (ltb room (length (t .bytes))) _ _ (λ g. tt) (λ g. (f .0, f .1, ltb-false room (length (t .bytes)) g)))
 
-    go : (a : Bool) → ltb space n ≡ a → (b : Bool) → ltb fragmentLimit n ≡ b → (c : Bool) → ltb room (length bytes) ≡ c
-        → Fits space room (cond (a || b) (refused 19 0) (cond c (refused 20 0) (given (record { held = after; bytes = bytes; lost = gone }))))
-    go true e b f c g = tt
-    go false e true f c g = tt
-    go false e false f true g = tt
-    go false e false f false g = (ltb-false space n e, ltb-false fragmentLimit n f, ltb-false room (length bytes) g)
+wired-fits : (space room : ℕ) (h : Held) (l : Label) (p : Packet) (w : Answer (List ℕ)) → Fits space room (wired space room h l p w)
+wired-fits space room h l p (given bytes) = fitted-fits space room (leadsTo h l p bytes)
+wired-fits space room h l p (refused n at) = tt
 
-opened-fits : (space room : ℕ) (h : Held) (number : ℕ) (x : Answer Packet) → Fits space room (opened space room h number x)
-opened-fits space room h number (given p) = fitted-fits space room (next h number p) (lost h number p) (wires (out h number p))
-opened-fits space room h number (refused n at) = tt
+opened-fits : (space room : ℕ) (h : Held) (l : Label) (x : Answer Packet) → Fits space room (opened space room h l x)
+opened-fits space room h l (given p) = wired-fits space room h l p (wires (out h l p))
+opened-fits space room h l (refused n at) = tt
 
-taken-room : (space room : ℕ) (h : Held) (number : ℕ) (payload : List ℕ) → Fits space room (taken space room h number payload)
+taken-room : (space room : ℕ) (h : Held) (p : Incoming) → Fits space room (taken space room h p)
 unfolding taken
-taken-room space room h number payload =
-    by-cond (Fits space room) (eqb (length payload) 0 || ltb payloadLimit (length payload)) _ _
+taken-room space room h p =
+    by-cond (Fits space room) (eqb (length (p .payload)) 0 || ltb payloadLimit (length (p .payload))) _ _
     (λ t. tt)
-    (λ t. by-cond (Fits space room) (ahead h number) _ _ (λ u. opened-fits space room h number (packetOf payload)) (λ u. tt))
+    (λ t. by-cond (Fits space room) (ahead h (p .label)) _ _ (λ u. opened-fits space room h (p .label) (packetOf (p .payload))) (λ u. tt))
 
-pub taken-fits : (space room : ℕ) (h : Held) (number : ℕ) (payload : List ℕ) (t : Taken) → taken space room h number payload ≡ given t
+pub taken-fits : (space room : ℕ) (h : Held) (p : Incoming) (t : Taken) → taken space room h p ≡ given t
     → (length (t .held .fragment) ≤ space) × (length (t .held .fragment) ≤ fragmentLimit) × (length (t .bytes) ≤ room)
-taken-fits space room h number payload t e = subst (Fits space room) e (taken-room space room h number payload)
+taken-fits space room h p t e = subst (Fits space room) e (taken-room space room h p)
 
 -- ---- states and stores
 
-module _ (state : State) (number : ℕ) (payload store output : List ℕ) where
-  pub outcome-held : state .«open» ≤ length store → state .«open» ≤ fragmentLimit
-      → outcome state number payload store output ≡ taken (length store) (length output) (heldIn state store) number payload
-  unfolding outcome
-  outcome-held g h = rw (le-ltb (length store) (state .«open») g, le-ltb fragmentLimit (state .«open») h)
-
-  outcome-fits : Fits (length store) (length output) (outcome state number payload store output)
+module _ (i : Inputs) where
+  outcome-fits : Fits (length (i .store)) (length (i .output)) (outcome i)
   unfolding outcome
   outcome-fits =
-      by-cond (Fits (length store) (length output)) (ltb (length store) (state .«open») || ltb fragmentLimit (state .«open»)) _ _
+      by-cond (Fits (length (i .store)) (length (i .output))) (tooLong (length (i .store)) (i .state .«open»)) _ _
       (λ t. tt)
-      (λ t. taken-room (length store) (length output) (heldIn state store) number payload)
+      (λ t. taken-room (length (i .store)) (length (i .output)) (heldIn (i .state) (i .store)) (i .packet))
 
-  pub store-length : length (storeAfter state number payload store output) ≡ length store
-  store-length = go (outcome state number payload store output) outcome-fits
+  pub store-length : length (received i .store) ≡ length (i .store)
+  store-length = go (outcome i) outcome-fits
     where
-      go : (t : Answer Taken) → Fits (length store) (length output) t → length (storeBy t store) ≡ length store
-      go (given t) f = front-length (t .held .fragment) store (f .0)
+      go : (t : Answer Taken) → Fits (length (i .store)) (length (i .output)) t → length (after t (i .store) (i .output) .store) ≡ length (i .store)
+      go (given t) f = front-length (t .held .fragment) (i .store) (f .0)
       go (refused n at) f = refl
 
-  pub output-length : length (outputAfter state number payload store output) ≡ length output
-  output-length = go (outcome state number payload store output) outcome-fits
+  pub output-length : length (received i .output) ≡ length (i .output)
+  output-length = go (outcome i) outcome-fits
     where
-      go : (t : Answer Taken) → Fits (length store) (length output) t → length (outputBy t output) ≡ length output
-      go (given t) f = front-length (t .bytes) output (f .2)
+      go : (t : Answer Taken) → Fits (length (i .store)) (length (i .output)) t → length (after t (i .store) (i .output) .output) ≡ length (i .output)
+      go (given t) f = front-length (t .bytes) (i .output) (f .2)
       go (refused n at) f = refl
 
-  pub answer-within : (r : Received) → given r ≡ receiveAnswer state number payload store output → r .bytes ≤ length output
-  answer-within r e = go (outcome state number payload store output) outcome-fits e
+  pub answer-within : (r : Received) → given r ≡ received i .answer → r .bytes ≤ length (i .output)
+  answer-within r e = go (outcome i) outcome-fits e
     where
-      go : (a : Answer Taken) → Fits (length store) (length output) a → given r ≡ answered a → r .bytes ≤ length output
+      go : (a : Answer Taken) → Fits (length (i .store)) (length (i .output)) a → given r ≡ answered (after a (i .store) (i .output) .answer) → r .bytes ≤ length (i .output)
       go (given t) f q =
           let same : r .bytes ≡ length (t .bytes) = cc in
           omega (arith, f .2)
@@ -142,15 +132,19 @@ pub record Holding (h : Held) (store : List ℕ) : Type 0 where
 pub holding-fresh : (store : List ℕ) → Holding fresh store
 holding-fresh store = record { stands = refl; within = omega arith; limited = omega arith }
 
-module _ (h : Held) (number : ℕ) (payload store output : List ℕ) (s : Holding h store) where
-  pub outcome-holding : outcome (stateOf h) number payload store output ≡ taken (length store) (length output) h number payload
-  outcome-holding =
-      outcome-held (stateOf h) number payload store output (s .within) (s .limited)
-      ∙ ap (λ (x : Held). taken (length store) (length output) x number payload) (s .stands)
+-- a call with what is held
+abbrev pub inputsBy : Held → Incoming → List ℕ → List ℕ → Inputs
+inputsBy h p store output = record { state = stateOf h; packet = p; store = store; output = output }
 
-  pub holding-next : (t : Taken) → taken (length store) (length output) h number payload ≡ given t
+module _ (h : Held) (p : Incoming) (store output : List ℕ) (s : Holding h store) where
+  pub outcome-holding : outcome (inputsBy h p store output) ≡ taken (length store) (length output) h p
+  outcome-holding =
+      outcome-held (inputsBy h p store output) (not-long (s .within) (s .limited))
+      ∙ ap (λ (x : Held). taken (length store) (length output) x p) (s .stands)
+
+  pub holding-next : (t : Taken) → taken (length store) (length output) h p ≡ given t
       → Holding (t .held) (front (t .held .fragment) store) × (length (front (t .held .fragment) store) ≡ length store)
   holding-next t e =
-      let f = taken-fits (length store) (length output) h number payload t e in
+      let f = taken-fits (length store) (length output) h p t e in
       let l = front-length (t .held .fragment) store (f .0) in
       (record { stands = held-again (t .held) store; within = rw l (f .0); limited = f .1 }, l)

@@ -7,18 +7,18 @@ use mathlib.Core.Bool.{Bool, true, false, cond, not, _&&_}
 use lib.ListN.{length, getD, take, drop, length-drop, length-map, drop-of-length-le, List·getD-map}
 use lib.Seq.{getD-drop, take-length, length-take-le}
 use lib.Dec.{eqb, ltb}
-use borrow.Author.Tests.{eq-eqb, ne-eqb, eqb-true, eqb-false, lt-ltb, le-ltb}
-use Rattle.base.specs.Answers.{given}
+use borrow.Author.Tests.{eq-eqb, ne-eqb, eqb-true, eqb-false, lt-ltb, le-ltb, ltb-true, ltb-false}
 use Rattle.base.proofs.Tests.{by-cond, split-on}
-use Rattle.element.specs.Elements.{bytesOf, nowhere, payloadElements}
+use Rattle.element.specs.Elements.{bytesOf, nowhere}
 use Rattle.element.specs.declared.Part.{Part}
+use Rattle.element.specs.declared.Walked.{Walked}
 use Rattle.handing.specs.Inside.{partsOf, led}
 use Rattle.handing.specs.Paper.{fragmentOf}
 use Rattle.handing.specs.declared.Fragment.{Fragment}
 use Rattle.handing.proofs.Cursors.{part-at}
 use Rattle.handing.proofs.Turns.{led-none}
-use Rattle.receiver.specs.Joining.{joined, some, finished, left}
-use Rattle.receiver.specs.Inside.{thrown, finishedEnd}
+use Rattle.receiver.specs.Joining.{withFragment, some, finished, left}
+use Rattle.receiver.specs.Inside.{thrown, finishedEnd, leftOpen, Read}
 
 -- ---- the last one
 
@@ -39,77 +39,106 @@ led-nth f [] m h = absurd (omega arith)
 led-nth f (e ∷ es) zero h = refl
 led-nth f (e ∷ es) (suc m) h = rw (ne-eqb (suc m) 0 (λ z. omega arith))
 
--- what is left open, as the code states it
-abbrev pub Left : List ℕ → Bool → ℕ → ℕ → Fragment → Type 0
-Left payload y from size r =
-    (r .kept ≤ size)
-    × (r .start + r .size ≤ length payload)
-    × ((store : List ℕ) → fragmentOf store payload r ≡ left y (led (take size store) (drop from (map (bytesOf payload) (partsOf payload)))))
-
 abbrev none : Fragment
 none = record { kept = 0; start = 0; size = 0 }
 
-pub left-none : (payload : List ℕ) (from size : ℕ) → Left payload false from size none
-unfolding left
-left-none payload from size = (omega arith, omega arith, λ store. refl)
+-- what is left open of the elements from `from` on, the first of which has `joined` bytes of the store in front
+pub record LeftOpen (payload : List ℕ) (y : Bool) (from joined : ℕ) (r : Fragment) : Type 0 where
+  pub kept-most : r .kept ≤ joined
+  pub lies : r .start + r .size ≤ length payload
+  pub bytes : (store : List ℕ) → fragmentOf store payload r ≡ left y (led (take joined store) (drop from (map (bytesOf payload) (partsOf payload))))
 
-module _ (payload : List ℕ) (from size n : ℕ) (count : n ≡ length (partsOf payload)) where
+module _ {payload : List ℕ} {all : Walked} (read : Read payload all) where
+  pub read-count : all .elements ≡ length (partsOf payload)
+  read-count = ap (λ (w : Walked). w .elements) (read .is)
+
+  pub read-first : all .kept ≡ getD (partsOf payload) 0 nowhere
+  read-first = ap (λ (w : Walked). w .kept) (read .is)
+
+  read-last : all .last ≡ getD (partsOf payload) (all .elements - 1) nowhere
+  read-last = ap (λ (w : Walked). w .last) (read .is) ∙ ap (λ (n : ℕ). getD (partsOf payload) (n - 1) nowhere) (sym read-count)
+
+  abbrev n : ℕ
+  n = all .elements
+
+  abbrev last : Part
+  last = all .last
+
   abbrev es : List (List ℕ)
   es = map (bytesOf payload) (partsOf payload)
 
   es-length : length es ≡ n
-  es-length = length-map (partsOf payload) (bytesOf payload) ∙ sym count
+  es-length = length-map (partsOf payload) (bytesOf payload) ∙ sym read-count
 
-  pub left-thrown : n ≤ from → Left payload true from size none
-  unfolding left
-  left-thrown h = (omega arith, omega arith, λ store. rw (drop-of-length-le es {i = from} (omega (arith, es-length))))
+  module _ (from size : ℕ) where
+    left-none : LeftOpen payload false from size none
+    unfolding left
+    left-none = record { kept-most = omega arith; lies = omega arith; bytes = λ store. refl }
 
-  module _ (whole : payloadElements payload ≡ given (partsOf payload)) (p : Part) (last : p ≡ getD (partsOf payload) (n - 1) nowhere) (some : from < n) (k : ℕ) (all : k ≡ cond (eqb (n - from) 1) size 0) where
-    lies : p .start + p .length ≤ length payload
-    lies =
-        let l = part-at payload (partsOf payload) whole (n - 1) (omega arith) in
-        subst (λ (q : Part). q .start + q .length ≤ length payload) (sym last) (omega arith)
+    left-thrown : n ≤ from → LeftOpen payload true from size none
+    unfolding left
+    left-thrown h =
+        record { kept-most = omega arith; lies = omega arith; bytes = λ store. rw (drop-of-length-le es {i = from} (omega (arith, es-length))) }
 
-    same-test : (m : ℕ) → n - from ≡ suc m → eqb m 0 ≡ eqb (n - from) 1
-    same-test m e = split-on (eqb (n - from) 1)
-        (λ t. let i : n - from ≡ 1 = eqb-true (n - from) 1 t in eq-eqb m 0 (omega arith) ∙ sym t)
-        (λ t. ne-eqb m 0 (λ z. eqb-false (n - from) 1 t (omega arith)) ∙ sym t)
+    -- the joined bytes are in front of the last, or none are
+    abbrev front : Bool → ℕ
+    front t = cond t size 0
 
-    in-front : (store : List ℕ) (t : Bool) → cond t (take size store) [] ≡ take (cond t size 0) store
+    in-front : (store : List ℕ) (t : Bool) → cond t (take size store) [] ≡ take (front t) store
     in-front store true = refl
     in-front store false = refl
 
-    pub left-some : Left payload true from size (record { kept = k; start = p .start; size = p .length })
-    left-some =
-        (rw all (by-cond (λ (x : ℕ). x ≤ size) (eqb (n - from) 1) size 0 (λ t. omega arith) (λ t. omega arith)), lies, λ store. sym (is store))
-      where
-        is : (store : List ℕ) → left true (led (take size store) (drop from es)) ≡ fragmentOf store payload (record { kept = k; start = p .start; size = p .length })
-        is store =
-            let m : ℕ = n - from - 1 in
-            let e : n - from ≡ suc m = omega arith in
-            let i : from + m ≡ n - 1 = omega arith in
-            let d : length (drop from es) ≡ n - from = length-drop from es ∙ ap (λ (x : ℕ). x - from) es-length in
-            let g : getD (drop from es) m [] ≡ bytesOf payload p =
-            getD-drop from es m []
-            ∙ ap (λ (x : ℕ). getD es x []) i
-            ∙ List·getD-map (bytesOf payload) (partsOf payload) (n - 1) nowhere
-            ∙ ap (bytesOf payload) (sym last) in
-            let f : cond (eqb m 0) (take size store) [] ≡ take k store =
-            ap (λ (t : Bool). cond t (take size store) []) (same-test m e) ∙ in-front store (eqb (n - from) 1) ∙ ap (λ (x : ℕ). take x store) (sym all) in
-            left-last m (led (take size store) (drop from es)) (led-length (take size store) (drop from es) ∙ d ∙ e)
-            ∙ led-nth (take size store) (drop from es) m (omega arith)
-            ∙ ap₂ _++_ f g
+    module _ (some : from < n) where
+      lies : last .start + last .length ≤ length payload
+      lies =
+          let l = part-at payload (partsOf payload) (read .whole) (n - 1) (omega (arith, read-count)) in
+          subst (λ (q : Part). q .start + q .length ≤ length payload) (sym read-last) (omega arith)
+
+      same-test : (m : ℕ) → n - from ≡ suc m → eqb m 0 ≡ eqb (n - from) 1
+      same-test m e = split-on (eqb (n - from) 1)
+          (λ t. let i : n - from ≡ 1 = eqb-true (n - from) 1 t in eq-eqb m 0 (omega arith) ∙ sym t)
+          (λ t. ne-eqb m 0 (λ z. eqb-false (n - from) 1 t (omega arith)) ∙ sym t)
+
+      left-some : LeftOpen payload true from size (record { kept = front (eqb (n - from) 1); start = last .start; size = last .length })
+      left-some =
+          record {
+            kept-most = by-cond (λ (x : ℕ). x ≤ size) (eqb (n - from) 1) size 0 (λ t. omega arith) (λ t. omega arith);
+            lies = lies;
+            bytes = λ store. sym (is store);
+          }
+        where
+          is : (store : List ℕ) → left true (led (take size store) (drop from es))
+              ≡ fragmentOf store payload (record { kept = front (eqb (n - from) 1); start = last .start; size = last .length })
+          is store =
+              let m : ℕ = n - from - 1 in
+              let e : n - from ≡ suc m = omega arith in
+              let i : from + m ≡ n - 1 = omega arith in
+              let d : length (drop from es) ≡ n - from = length-drop from es ∙ ap (λ (x : ℕ). x - from) es-length in
+              let g : getD (drop from es) m [] ≡ bytesOf payload last =
+              getD-drop from es m []
+              ∙ ap (λ (x : ℕ). getD es x []) i
+              ∙ List·getD-map (bytesOf payload) (partsOf payload) (n - 1) nowhere
+              ∙ ap (bytesOf payload) (sym read-last) in
+              let f : cond (eqb m 0) (take size store) [] ≡ take (front (eqb (n - from) 1)) store =
+              ap (λ (t : Bool). cond t (take size store) []) (same-test m e) ∙ in-front store (eqb (n - from) 1) in
+              left-last m (led (take size store) (drop from es)) (led-length (take size store) (drop from es) ∙ d ∙ e)
+              ∙ led-nth (take size store) (drop from es) m (omega arith)
+              ∙ ap₂ _++_ f g
+
+    pub left-is : (y : Bool) → LeftOpen payload y from size (leftOpen y from all size)
+    left-is false = left-none
+    left-is true = by-cond (LeftOpen payload true from size) (ltb from n) _ _ (λ t. left-some (ltb-true from n t)) (λ t. left-thrown (ltb-false from n t))
 
 -- ---- joined, and finished
 
-joined-led : (o : List ℕ) (es : List (List ℕ)) → (length o ≡ 0 → ⊥) → joined o true es ≡ led o es
-unfolding joined
+joined-led : (o : List ℕ) (es : List (List ℕ)) → (length o ≡ 0 → ⊥) → withFragment o true es ≡ led o es
+unfolding withFragment
 joined-led [] es h = absurd (h refl)
 joined-led (b ∷ o) [] h = refl
 joined-led (b ∷ o) (e ∷ es) h = refl
 
-joined-thrown : (es : List (List ℕ)) → joined [] true es ≡ led [] (drop 1 es)
-unfolding joined
+joined-thrown : (es : List (List ℕ)) → withFragment [] true es ≡ led [] (drop 1 es)
+unfolding withFragment
 joined-thrown [] = refl
 joined-thrown (e ∷ es) = sym (led-none es)
 
@@ -122,8 +151,8 @@ some-take store size h = rw (length-take-le size store h)
 
 -- z: the flag; t: in step; of the store, `size` bytes are open and k are joined; `from` elements are thrown away
 pub joined-is : (store : List ℕ) (size : ℕ) (z t : Bool) (es : List (List ℕ)) (k from : ℕ) → size ≤ length store → k ≡ cond (z && t) size 0 → from ≡ thrown z k
-    → joined (cond t (take size store) []) z es ≡ led (take k store) (drop from es)
-unfolding joined
+    → withFragment (cond t (take size store) []) z es ≡ led (take k store) (drop from es)
+unfolding withFragment
 joined-is store size false t es k from h a b = rw (b, a) (sym (led-none es))
 joined-is store size true false es k from h a b = rw (b, a) (joined-thrown es)
 joined-is store zero true true es k from h a b = rw (b, a) (joined-thrown es)

@@ -3,70 +3,96 @@ use mathlib.Core.Path.{_≡_, refl, ap, _∙_}
 use Prim.Native.Nat.{ℕ, _≤_, _<_}
 use native.Mathlib.Omega.{arith}
 use mathlib.Core.List.{List}
-use mathlib.Core.Bool.{Bool, true, false, cond}
-use lib.ListN.{length, getD}
-use borrow.Author.Tests.{lt-ltb, le-ltb, eq-eqb, ne-eqb}
+use mathlib.Core.Bool.{Bool, true, false, cond, _||_}
+use lib.ListN.{length}
+use lib.Dec.{ltb}
+use borrow.Author.Tests.{lt-ltb, le-ltb, ltb-false, eq-eqb, ne-eqb}
 use Rattle.base.specs.Answers.{Answer, given, refused}
-use Rattle.element.specs.Elements.{nowhere, chosen, payloadElements, payloadLimit}
-use Rattle.element.specs.Paper.{walked}
+use Rattle.element.specs.Elements.{payloadElements, payloadLimit}
+use Rattle.element.specs.Paper.{walkedOf, walked}
 use Rattle.element.specs.declared.Part.{Part}
 use Rattle.element.specs.declared.Walked.{Walked}
 use Rattle.handing.specs.Handing.{fragmentLimit}
-use Rattle.handing.specs.Inside.{partsBy}
+use Rattle.handing.specs.Inside.{partsBy, partsOf}
+use Rattle.handing.proofs.Cursors.{payload-some, payload-small}
 use Rattle.receiver.specs.Packet.{packetBy, packetOf}
-use Rattle.receiver.specs.Joining.{Held, isAhead}
-use Rattle.receiver.specs.Call.{opened, taken, heldIn, outcome}
-use Rattle.receiver.specs.declared.State.{State}
+use Rattle.receiver.specs.Joining.{isAhead}
+use Rattle.receiver.specs.Call.{tooLong, opened, taken, heldIn, Inputs, outcome, leaves, received}
+use Rattle.receiver.specs.Inside.{Read, Opened}
 
-module _ (state : State) (number : ℕ) (payload store output : List ℕ) where
-  pub outcome-store : length store < state .«open» → outcome state number payload store output ≡ refused 12 0
+-- ---- so many open bytes
+
+pub not-long : {space size : ℕ} → size ≤ space → size ≤ fragmentLimit → tooLong space size ≡ false
+not-long {space} {size} g h = rw (le-ltb space size g, le-ltb fragmentLimit size h)
+
+pub long-not : {space size : ℕ} → tooLong space size ≡ false → (size ≤ space) × (size ≤ fragmentLimit)
+long-not {space} {size} = go (ltb space size) refl (ltb fragmentLimit size) refl
+  where
+    go : (a : Bool) → ltb space size ≡ a → (b : Bool) → ltb fragmentLimit size ≡ b → a || b ≡ false → (size ≤ space) × (size ≤ fragmentLimit)
+    go true e b f z = let n : true ≡ false = z in let o : _≡_ {A = ℕ} 0 1 = cc in absurd (omega arith)
+    go false e true f z = let n : true ≡ false = z in let o : _≡_ {A = ℕ} 0 1 = cc in absurd (omega arith)
+    go false e false f z = (ltb-false space size e, ltb-false fragmentLimit size f)
+
+module _ (i : Inputs) where
+  -- a refusal leaves all as it was
+  pub leaves-refused : {n a : ℕ} {output : List ℕ} → outcome i ≡ refused n a → output ≡ i .output → leaves (refused n a) (i .store) output ≡ received i
+  leaves-refused e f = rw (e, f)
+
+  -- ---- R12
+
+  pub outcome-impossible : tooLong (length (i .store)) (i .state .«open») ≡ true → outcome i ≡ refused 12 0
   unfolding outcome
-  outcome-store h = rw (lt-ltb (length store) (state .«open») h)
+  outcome-impossible h = rw h
 
-  pub outcome-limit : state .«open» ≤ length store → fragmentLimit < state .«open» → outcome state number payload store output ≡ refused 12 0
-  unfolding outcome
-  outcome-limit g h = rw (le-ltb (length store) (state .«open») g, lt-ltb fragmentLimit (state .«open») h)
+  -- ---- R13, R14
 
-  module _ (g : state .«open» ≤ length store) (h : state .«open» ≤ fragmentLimit) where
-    outcome-taken : outcome state number payload store output ≡ taken (length store) (length output) (heldIn state store) number payload
+  module _ (h : tooLong (length (i .store)) (i .state .«open») ≡ false) where
+    pub outcome-held : outcome i ≡ taken (length (i .store)) (length (i .output)) (heldIn (i .state) (i .store)) (i .packet)
     unfolding outcome
-    outcome-taken = rw (le-ltb (length store) (state .«open») g, le-ltb fragmentLimit (state .«open») h)
+    outcome-held = rw h
 
-    pub outcome-empty : length payload ≡ 0 → outcome state number payload store output ≡ refused 13 0
+    pub outcome-empty : length (i .packet .payload) ≡ 0 → outcome i ≡ refused 13 0
     unfolding taken
-    outcome-empty e = outcome-taken ∙ rw (eq-eqb (length payload) 0 e)
+    outcome-empty e = outcome-held ∙ rw (eq-eqb (length (i .packet .payload)) 0 e)
 
-    module _ (some : length payload ≡ 0 → ⊥) where
-      pub outcome-long : payloadLimit < length payload → outcome state number payload store output ≡ refused 13 0
+    module _ (some : length (i .packet .payload) ≡ 0 → ⊥) where
+      pub outcome-long : payloadLimit < length (i .packet .payload) → outcome i ≡ refused 13 0
       unfolding taken
-      outcome-long l = outcome-taken ∙ rw (ne-eqb (length payload) 0 some, lt-ltb payloadLimit (length payload) l)
+      outcome-long l = outcome-held ∙ rw (ne-eqb (length (i .packet .payload)) 0 some, lt-ltb payloadLimit (length (i .packet .payload)) l)
 
-      module _ (l : length payload ≤ payloadLimit) (t : Bool) (e : t ≡ isAhead (state .begun) (state .last) number) where
-        outcome-by : outcome state number payload store output
-            ≡ cond t (opened (length store) (length output) (heldIn state store) number (packetOf payload)) (refused 14 0)
+      module _ (l : length (i .packet .payload) ≤ payloadLimit) (t : Bool) (e : t ≡ isAhead (i .state .begun) (i .state .last) (i .packet .label .number)) where
+        outcome-by : outcome i
+            ≡ cond t (opened (length (i .store)) (length (i .output)) (heldIn (i .state) (i .store)) (i .packet .label) (packetOf (i .packet .payload))) (refused 14 0)
         unfolding taken
-        outcome-by = outcome-taken ∙ rw (ne-eqb (length payload) 0 some, le-ltb payloadLimit (length payload) l, e)
+        outcome-by = outcome-held ∙ rw (ne-eqb (length (i .packet .payload)) 0 some, le-ltb payloadLimit (length (i .packet .payload)) l, e)
 
-        pub outcome-behind : t ≡ false → outcome state number payload store output ≡ refused 14 0
+        pub outcome-behind : t ≡ false → outcome i ≡ refused 14 0
         outcome-behind q = outcome-by ∙ rw q
 
-        pub outcome-opened : t ≡ true
-            → outcome state number payload store output ≡ opened (length store) (length output) (heldIn state store) number (packetOf payload)
-        outcome-opened q = outcome-by ∙ rw q
+        -- ---- R15 to R17, as a walk over the elements finds them
 
--- ---- the elements, as a walk finds them
+        pub outcome-unread : t ≡ true → (n at : ℕ) → refused n at ≡ walked 0 (payloadElements (i .packet .payload)) → outcome i ≡ refused n 0
+        outcome-unread q n at w = outcome-by ∙ rw q (go (payloadElements (i .packet .payload)) w)
+          where
+            go : (x : Answer (List Part)) → refused n at ≡ walked 0 x
+                → opened (length (i .store)) (length (i .output)) (heldIn (i .state) (i .store)) (i .packet .label) (packetBy (i .packet .payload) x) ≡ refused n 0
+            go (given ps) e = let z : _≡_ {A = ℕ} 0 1 = cc in absurd (omega arith)
+            go (refused m a) e = let f : m ≡ n = cc in ap (λ (x : ℕ). refused x 0) f
 
-pub walked-whole : (k : ℕ) (x : Answer (List Part)) (a : Walked) → given a ≡ walked k x
-    → (x ≡ given (partsBy x)) × (a .elements ≡ length (partsBy x)) × (a .kept ≡ getD (partsBy x) k nowhere)
-walked-whole k (given ps) a e =
-    let f : a ≡ record { elements = length ps; kept = chosen k (given ps) } = cc in
-    (refl, ap (λ (w : Walked). w .elements) f, ap (λ (w : Walked). w .kept) f)
-walked-whole k (refused n at) a e = let z : _≡_ {A = ℕ} 0 1 = cc in absurd (omega arith)
+  -- ---- a packet that is ahead and has been read
 
-pub opened-refused : (space room : ℕ) (h : Held) (number : ℕ) (payload : List ℕ) (n at : ℕ) → refused n at ≡ walked 0 (payloadElements payload)
-    → opened space room h number (packetOf payload) ≡ refused n 0
-opened-refused space room h number payload n at = go (payloadElements payload)
+  pub outcome-opened : {all : Walked} → Opened i all
+      → outcome i ≡ opened (length (i .store)) (length (i .output)) (heldIn (i .state) (i .store)) (i .packet .label) (packetOf (i .packet .payload))
+  outcome-opened o =
+      let w = o .read .whole in
+      let some = payload-some (i .packet .payload) (partsOf (i .packet .payload)) w in
+      outcome-by (o .possible) (λ e. omega (arith, some)) (payload-small (i .packet .payload) (partsOf (i .packet .payload)) w) _ refl ∙ rw (o .forward)
+
+pub walked-read : (payload : List ℕ) {all : Walked} → given all ≡ walked 0 (payloadElements payload) → Read payload all
+walked-read payload {all} e =
+    let w = go (payloadElements payload) e in
+    record { whole = w .0; is = w .1 }
   where
-    go : (x : Answer (List Part)) → refused n at ≡ walked 0 x → opened space room h number (packetBy payload x) ≡ refused n 0
-    go (given ps) e = let z : _≡_ {A = ℕ} 0 1 = cc in absurd (omega arith)
-    go (refused m a) e = let f : m ≡ n = cc in ap (λ (i : ℕ). refused i 0) f
+    go : (x : Answer (List Part)) → given all ≡ walked 0 x → (x ≡ given (partsBy x)) × (all ≡ walkedOf 0 (partsBy x))
+    go (given ps) e = let f : all ≡ walkedOf 0 ps = cc in (refl, f)
+    go (refused n at) e = let z : _≡_ {A = ℕ} 0 1 = cc in absurd (omega arith)

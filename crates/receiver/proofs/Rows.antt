@@ -4,13 +4,14 @@ use Prim.Native.Nat.{ℕ, _+_, _%_}
 use mathlib.Core.Bool.{Bool, true, false}
 use mathlib.Core.List.{List, [], _∷_, _++_, map}
 use Rattle.base.specs.Answers.{Answer, given, refused}
+use Rattle.base.specs.Streams.{streamFrom}
 use Rattle.leb128.specs.Field.{fieldIn, encodeIn}
 use Rattle.obu.specs.Front.{frontOf, headed}
 use Rattle.obu.specs.Wire.{wholeOf, wire}
-use Rattle.element.specs.Elements.{elementAt, untilEnd, exactly, counting, elementsOf, payloadElements}
+use Rattle.element.specs.Elements.{elementAt, exactly, counting, elementsOf, payloadElements}
 use Rattle.handing.specs.Handing.{wires}
-use Rattle.receiver.specs.Joining.{Held, fresh, isAhead, isInStep, joined, lost, finished, left, handed, keptOpen, next, out}
-use Rattle.receiver.specs.Call.{Taken, taken, outcome, receiveAnswer, storeAfter, outputAfter}
+use Rattle.receiver.specs.Joining.{label, Held, fresh, isAhead, isInStep, follows, withFragment, lost, finished, left, handed, keptOpen, next, out}
+use Rattle.receiver.specs.Call.{Taken, taken, stateBy, stateOf, Inputs, inputs, outcome, received}
 use Rattle.receiver.specs.declared.State.{State}
 use Rattle.receiver.specs.declared.Received.{Received}
 
@@ -26,7 +27,8 @@ bytes (refused n at) = []
 feed : Held → ℕ → List (List ℕ) → List ℕ
 feed h number [] = []
 feed h number (p ∷ ps) =
-    bytes (taken 64 64 h number p) ++ feed (after h (taken 64 64 h number p)) ((number + 1) % 65536) ps
+    let a = taken 64 64 h (record { label = label number; payload = p }) in
+    bytes a ++ feed (after h a) ((number + 1) % 65536) ps
 
 -- U3, U4, U5, U6, U7, U8, U9, U10, U11, U17, U18
 trains : List (List (List ℕ))
@@ -59,70 +61,60 @@ units :
     ∷ (0x32 ∷ 0 ∷ [])
     ∷ (0x32 ∷ 0 ∷ 0x32 ∷ 0 ∷ 0x32 ∷ 0 ∷ 0x32 ∷ 6 ∷ 0xa1 ∷ 0xa1 ∷ 0xa1 ∷ 0xa1 ∷ 0xa1 ∷ 0xa1 ∷ [])
     ∷ []
-unfolding feed after bytes trains taken payloadElements elementsOf counting untilEnd exactly elementAt fieldIn encodeIn isAhead isInStep joined finished left handed keptOpen next out wires wire wholeOf frontOf headed
+unfolding feed after bytes trains taken payloadElements elementsOf counting streamFrom exactly elementAt fieldIn encodeIn isAhead isInStep follows withFragment finished left handed keptOpen next out wires wire wholeOf frontOf headed
 units = refl
 
 -- ---- calls: a state, a number, a payload, a store, an output
 
-record Given : Type 0 where
-  state : State
-  number : ℕ
-  payload : List ℕ
-  store : List ℕ
-  output : List ℕ
-
 -- begun at number 7, with so many bytes open
 at7 : ℕ → State
-at7 n = record { begun = true; last = 7; «open» = n }
+at7 n = stateBy true (label 7) n
 
 begin : State
-begin = record { begun = false; last = 0; «open» = 0 }
+begin = stateOf fresh
 
-call : State → ℕ → List ℕ → List ℕ → List ℕ → Given
-call s n p store output = record { state = s; number = n; payload = p; store = store; output = output }
-
-answers : List Given → List (Answer Received)
-answers cs = map (λ (c : Given). receiveAnswer (c .state) (c .number) (c .payload) (c .store) (c .output)) cs
+answers : List Inputs → List (Answer Received)
+answers is = map (λ (i : Inputs). received i .answer) is
 
 -- a refusal, in the order of C3
-bad : List Given
+bad : List Inputs
 bad =
-    call (at7 1) 7 [] [] []
-    ∷ call (at7 0) 7 [] [] []
-    ∷ call (at7 0) 7 (0x98 ∷ []) [] []
-    ∷ call (at7 0) 32775 (0x98 ∷ []) [] []
-    ∷ call begin 0 (0x98 ∷ []) [] []
-    ∷ call begin 0 (0x20 ∷ []) [] []
-    ∷ call begin 0 (0x10 ∷ []) [] []
-    ∷ call begin 0 (0x60 ∷ 1 ∷ 0x12 ∷ 0x30 ∷ []) [] []
-    ∷ call begin 0 (0x10 ∷ 0x12 ∷ []) [] []
-    ∷ call begin 0 (0x10 ∷ 0x32 ∷ 0x80 ∷ []) [] []
-    ∷ call (at7 1) 8 (0x90 ∷ 0x80 ∷ []) (0x32 ∷ []) []
-    ∷ call begin 0 (0x60 ∷ 1 ∷ 0x30 ∷ 0x30 ∷ []) [] []
-    ∷ call (at7 1) 8 (0xd0 ∷ 0xa1 ∷ []) (0x30 ∷ []) []
-    ∷ call begin 0 (0x60 ∷ 1 ∷ 0x30 ∷ 0x30 ∷ []) (0 ∷ []) (0 ∷ [])
+    inputs (at7 1) 7 [] [] []
+    ∷ inputs (at7 0) 7 [] [] []
+    ∷ inputs (at7 0) 7 (0x98 ∷ []) [] []
+    ∷ inputs (at7 0) 32775 (0x98 ∷ []) [] []
+    ∷ inputs begin 0 (0x98 ∷ []) [] []
+    ∷ inputs begin 0 (0x20 ∷ []) [] []
+    ∷ inputs begin 0 (0x10 ∷ []) [] []
+    ∷ inputs begin 0 (0x60 ∷ 1 ∷ 0x12 ∷ 0x30 ∷ []) [] []
+    ∷ inputs begin 0 (0x10 ∷ 0x12 ∷ []) [] []
+    ∷ inputs begin 0 (0x10 ∷ 0x32 ∷ 0x80 ∷ []) [] []
+    ∷ inputs (at7 1) 8 (0x90 ∷ 0x80 ∷ []) (0x32 ∷ []) []
+    ∷ inputs begin 0 (0x60 ∷ 1 ∷ 0x30 ∷ 0x30 ∷ []) [] []
+    ∷ inputs (at7 1) 8 (0xd0 ∷ 0xa1 ∷ []) (0x30 ∷ []) []
+    ∷ inputs begin 0 (0x60 ∷ 1 ∷ 0x30 ∷ 0x30 ∷ []) (0 ∷ []) (0 ∷ [])
     ∷ []
 
 refusals :
     answers bad
     ≡ map (λ (n : ℕ). refused n 0) (12 ∷ 13 ∷ 14 ∷ 14 ∷ 15 ∷ 16 ∷ 17 ∷ 18 ∷ 18 ∷ 18 ∷ 18 ∷ 19 ∷ 19 ∷ 20 ∷ [])
-unfolding bad call at7 begin answers outcome taken payloadElements elementsOf counting untilEnd exactly elementAt fieldIn encodeIn isAhead isInStep joined finished left handed keptOpen next out wires wire wholeOf frontOf headed
+unfolding bad at7 begin answers outcome taken payloadElements elementsOf counting streamFrom exactly elementAt fieldIn encodeIn isAhead isInStep follows withFragment finished left handed keptOpen next out wires wire wholeOf frontOf headed
 refusals = refl
 
 -- a packet taken: thrown away where nothing is open or it is not in step; joined and left open; dropped types; the furthest that is ahead;
 -- three bytes open, and then Z clear, Z not in step, Z in step; Z in step and nothing open
-good : List Given
+good : List Inputs
 good =
-    call begin 9 (0x90 ∷ 0x34 ∷ []) (1 ∷ []) (1 ∷ [])
-    ∷ call (at7 1) 9 (0xd0 ∷ 0xa1 ∷ []) (0x30 ∷ 1 ∷ []) []
-    ∷ call (at7 1) 8 (0xd0 ∷ 0xa1 ∷ []) (0x30 ∷ 1 ∷ 1 ∷ []) []
-    ∷ call (at7 2) 8 (0x90 ∷ 0xa2 ∷ []) (0x30 ∷ 0xa1 ∷ 1 ∷ []) (1 ∷ 1 ∷ 1 ∷ 1 ∷ 1 ∷ [])
-    ∷ call (at7 1) 8 (0x10 ∷ 0x10 ∷ []) (0x30 ∷ 1 ∷ []) []
-    ∷ call (at7 0) 32774 (0x50 ∷ 0x78 ∷ []) (1 ∷ 1 ∷ []) []
-    ∷ call (at7 3) 8 (0x10 ∷ 0x32 ∷ 0 ∷ []) (0x30 ∷ 0xa1 ∷ 0xa2 ∷ []) (1 ∷ 1 ∷ [])
-    ∷ call (at7 3) 9 (0x90 ∷ 0xa3 ∷ []) (0x30 ∷ 0xa1 ∷ 0xa2 ∷ []) []
-    ∷ call (at7 3) 8 (0x90 ∷ 0xa3 ∷ []) (0x30 ∷ 0xa1 ∷ 0xa2 ∷ []) (1 ∷ 1 ∷ 1 ∷ 1 ∷ 1 ∷ [])
-    ∷ call (at7 0) 8 (0x90 ∷ 0xa3 ∷ []) [] []
+    inputs begin 9 (0x90 ∷ 0x34 ∷ []) (1 ∷ []) (1 ∷ [])
+    ∷ inputs (at7 1) 9 (0xd0 ∷ 0xa1 ∷ []) (0x30 ∷ 1 ∷ []) []
+    ∷ inputs (at7 1) 8 (0xd0 ∷ 0xa1 ∷ []) (0x30 ∷ 1 ∷ 1 ∷ []) []
+    ∷ inputs (at7 2) 8 (0x90 ∷ 0xa2 ∷ []) (0x30 ∷ 0xa1 ∷ 1 ∷ []) (1 ∷ 1 ∷ 1 ∷ 1 ∷ 1 ∷ [])
+    ∷ inputs (at7 1) 8 (0x10 ∷ 0x10 ∷ []) (0x30 ∷ 1 ∷ []) []
+    ∷ inputs (at7 0) 32774 (0x50 ∷ 0x78 ∷ []) (1 ∷ 1 ∷ []) []
+    ∷ inputs (at7 3) 8 (0x10 ∷ 0x32 ∷ 0 ∷ []) (0x30 ∷ 0xa1 ∷ 0xa2 ∷ []) (1 ∷ 1 ∷ [])
+    ∷ inputs (at7 3) 9 (0x90 ∷ 0xa3 ∷ []) (0x30 ∷ 0xa1 ∷ 0xa2 ∷ []) []
+    ∷ inputs (at7 3) 8 (0x90 ∷ 0xa3 ∷ []) (0x30 ∷ 0xa1 ∷ 0xa2 ∷ []) (1 ∷ 1 ∷ 1 ∷ 1 ∷ 1 ∷ [])
+    ∷ inputs (at7 0) 8 (0x90 ∷ 0xa3 ∷ []) [] []
     ∷ []
 
 -- this number taken, so many bytes open, so many handed out; whether a fragment and an element were thrown away
@@ -130,7 +122,7 @@ got : ℕ → ℕ → ℕ → Bool → Bool → Answer Received
 got last size count fragment element =
     given
     (record {
-      state = record { begun = true; last = last; «open» = size };
+      state = stateBy true (label last) size;
       bytes = count;
       «fragment_lost» = fragment;
       «element_lost» = element;
@@ -149,17 +141,17 @@ states :
     ∷ got 8 0 5 false false
     ∷ got 8 0 0 false true
     ∷ []
-unfolding good got call at7 begin answers outcome taken payloadElements elementsOf counting untilEnd exactly elementAt fieldIn encodeIn isAhead isInStep joined lost finished left handed keptOpen next out wires wire wholeOf frontOf headed
+unfolding good got at7 begin answers outcome taken payloadElements elementsOf counting streamFrom exactly elementAt fieldIn encodeIn isAhead isInStep follows withFragment lost finished left handed keptOpen next out wires wire wholeOf frontOf headed
 states = refl
 
 stores :
-    map (λ (c : Given). storeAfter (c .state) (c .number) (c .payload) (c .store) (c .output)) good
+    map (λ (i : Inputs). received i .store) good
     ≡ (1 ∷ []) ∷ (0x30 ∷ 1 ∷ []) ∷ (0x30 ∷ 0xa1 ∷ 1 ∷ []) ∷ (0x30 ∷ 0xa1 ∷ 1 ∷ []) ∷ (0x30 ∷ 1 ∷ []) ∷ (0x78 ∷ 1 ∷ []) ∷ (0x30 ∷ 0xa1 ∷ 0xa2 ∷ []) ∷ (0x30 ∷ 0xa1 ∷ 0xa2 ∷ []) ∷ (0x30 ∷ 0xa1 ∷ 0xa2 ∷ []) ∷ [] ∷ []
-unfolding good call at7 begin outcome taken payloadElements elementsOf counting untilEnd exactly elementAt fieldIn encodeIn isAhead isInStep joined finished left handed keptOpen next out wires wire wholeOf frontOf headed
+unfolding good at7 begin outcome taken payloadElements elementsOf counting streamFrom exactly elementAt fieldIn encodeIn isAhead isInStep follows withFragment finished left handed keptOpen next out wires wire wholeOf frontOf headed
 stores = refl
 
 outputs :
-    map (λ (c : Given). outputAfter (c .state) (c .number) (c .payload) (c .store) (c .output)) good
+    map (λ (i : Inputs). received i .output) good
     ≡ (1 ∷ []) ∷ [] ∷ [] ∷ (0x32 ∷ 2 ∷ 0xa1 ∷ 0xa2 ∷ 1 ∷ []) ∷ [] ∷ [] ∷ (0x32 ∷ 0 ∷ []) ∷ [] ∷ (0x32 ∷ 3 ∷ 0xa1 ∷ 0xa2 ∷ 0xa3 ∷ []) ∷ [] ∷ []
-unfolding good call at7 begin outcome taken payloadElements elementsOf counting untilEnd exactly elementAt fieldIn encodeIn isAhead isInStep joined finished left handed keptOpen next out wires wire wholeOf frontOf headed
+unfolding good at7 begin outcome taken payloadElements elementsOf counting streamFrom exactly elementAt fieldIn encodeIn isAhead isInStep follows withFragment finished left handed keptOpen next out wires wire wholeOf frontOf headed
 outputs = refl

@@ -20,7 +20,7 @@ use Rattle.handing.specs.Handing.{fragmentLimit, before, wires}
 use Rattle.handing.proofs.Cursors.{payload-some}
 use Rattle.handing.proofs.Turns.{wire-grows}
 use Rattle.receiver.specs.Packet.{Packet, packetBy, packetOf}
-use Rattle.receiver.specs.Joining.{joined, finished, handed}
+use Rattle.receiver.specs.Joining.{withFragment, finished, handed}
 
 -- the bytes of several elements
 unfoldable pub total : List (List ℕ) → ℕ
@@ -95,8 +95,8 @@ first-most true o (i ∷ es) b s h e =
     omega (arith, g .2, finished-most true (i ∷ es) (g .0) s (omega arith) (g .1))
 
 joined-most : (y z : Bool) (o : List ℕ) (es : List (List ℕ)) (b : List ℕ) → All Some es → length o + total es < 2097152
-    → wires (finished y (joined o z es)) ≡ given b → length b ≤ length o + 4 * total es
-unfolding joined total
+    → wires (finished y (withFragment o z es)) ≡ given b → length b ≤ length o + 4 * total es
+unfolding withFragment total
 joined-most y false o es b s h e = omega (arith, finished-most y es b s (omega arith) e)
 joined-most y true o [] b s h e = omega (arith, finished-most y [] b s (omega arith) e)
 joined-most y true [] (e ∷ es) b s h w = omega (arith, finished-most y es b (s .1) (omega arith) w)

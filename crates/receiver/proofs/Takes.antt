@@ -1,8 +1,8 @@
 -- A packet that is taken or refused: the call's definition, by what the code finds. Assumes nothing.
-use mathlib.Core.Path.{_≡_, refl, sym, ap, ap₂, _∙_}
+use mathlib.Core.Path.{_≡_, refl, sym, ap, ap₂, subst, _∙_}
 use Prim.Native.Nat.{ℕ, _+_, _-_, _≤_, _<_}
 use native.Mathlib.Omega.{arith}
-use mathlib.Core.List.{List, _++_, map}
+use mathlib.Core.List.{List, [], _++_, map}
 use mathlib.Core.Bool.{Bool, true, false, cond, _&&_}
 use lib.ListN.{length, getD, take, drop, length-append, length-map}
 use lib.Seq.{length-take-le}
@@ -12,180 +12,198 @@ use Rattle.base.specs.Answers.{Answer, given, refused}
 use Rattle.base.specs.Lists.{replaced, front}
 use Rattle.base.proofs.Tests.{by-cond}
 use Rattle.element.specs.Header.{zBit, yBit}
-use Rattle.element.specs.Elements.{bytesOf, nowhere, payloadElements}
+use Rattle.element.specs.Elements.{bytesOf}
+use Rattle.element.specs.declared.Walked.{Walked}
 use Rattle.handing.specs.Handing.{fragmentLimit, wires}
-use Rattle.handing.specs.Inside.{partsOf, cursorOf, led, between}
+use Rattle.handing.specs.Inside.{partsOf, led, between, Finishing}
 use Rattle.handing.specs.Paper.{fragmentOf}
 use Rattle.handing.specs.declared.Fragment.{Fragment}
 use Rattle.handing.proofs.Across.{across-length}
-use Rattle.receiver.specs.Packet.{packetBy, packetOf}
-use Rattle.receiver.specs.Joining.{Held, Lost, isAhead, isInStep, joinable, joined, lost, finished, left, handed, keptOpen, next, out}
-use Rattle.receiver.specs.Call.{Taken, fitted, opened, heldIn, answered, storeBy, outputBy}
-use Rattle.receiver.specs.Inside.{keptBytes, thrown, finishedEnd}
-use Rattle.receiver.specs.declared.State.{State}
-use Rattle.receiver.specs.declared.Received.{Received}
-use Rattle.receiver.proofs.Opens.{Left, joined-is, lost-is, finished-is}
+use Rattle.handing.proofs.Cursors.{elements-some}
+use Rattle.receiver.specs.Packet.{Packet, packetBy}
+use Rattle.receiver.specs.Joining.{Held, holding, follows, joinable, withFragment, lost, finished, left, handed, keptOpen, next, out}
+use Rattle.receiver.specs.Call.{Taken, tooLong, fitted, wired, opened, lastOf, heldIn, stateBy, Inputs, outcome, leaves, received}
+use Rattle.receiver.specs.Inside.{keptBytes, thrown, finishedEnd, leftOpen, Opened}
+use Rattle.receiver.proofs.Opens.{LeftOpen, left-is, read-count, read-first, joined-is, lost-is, finished-is}
+use Rattle.receiver.proofs.Outcomes.{long-not, leaves-refused, outcome-opened}
 
 -- ---- R19, R20
 
-module _ (space room : ℕ) (after : Held) (gone : Lost) (bytes : List ℕ) where
-  pub fitted-store : space < length (after .fragment) → fitted space room after gone (given bytes) ≡ refused 19 0
-  fitted-store h = rw (lt-ltb space (length (after .fragment)) h)
+module _ (space room : ℕ) (t : Taken) where
+  fitted-long : tooLong space (length (t .held .fragment)) ≡ true → fitted space room t ≡ refused 19 0
+  fitted-long h = rw h
 
-  pub fitted-limit : length (after .fragment) ≤ space → fragmentLimit < length (after .fragment) → fitted space room after gone (given bytes) ≡ refused 19 0
-  fitted-limit g h = rw (le-ltb space (length (after .fragment)) g, lt-ltb fragmentLimit (length (after .fragment)) h)
+  module _ (h : tooLong space (length (t .held .fragment)) ≡ false) where
+    fitted-output : room < length (t .bytes) → fitted space room t ≡ refused 20 0
+    fitted-output r = rw (h, lt-ltb room (length (t .bytes)) r)
 
-  pub fitted-output : length (after .fragment) ≤ space → length (after .fragment) ≤ fragmentLimit → room < length bytes
-      → fitted space room after gone (given bytes) ≡ refused 20 0
-  fitted-output g h r =
-      rw (le-ltb space (length (after .fragment)) g, le-ltb fragmentLimit (length (after .fragment)) h, lt-ltb room (length bytes) r)
+    pub fitted-all : length (t .bytes) ≤ room → fitted space room t ≡ given t
+    fitted-all r = rw (h, le-ltb room (length (t .bytes)) r)
 
-  pub fitted-all : length (after .fragment) ≤ space → length (after .fragment) ≤ fragmentLimit → length bytes ≤ room
-      → fitted space room after gone (given bytes) ≡ given (record { held = after; bytes = bytes; lost = gone })
-  fitted-all g h r =
-      rw (le-ltb space (length (after .fragment)) g, le-ltb fragmentLimit (length (after .fragment)) h, le-ltb room (length bytes) r)
+-- ---- a packet that is taken: z, y its flags, k bytes of the store joined, `from` elements thrown away, those up to `to` finished
 
--- ---- what is left of an outcome
-
-abbrev pub Leaves : Answer Taken → List ℕ → List ℕ → Answer Received → List ℕ → List ℕ → Type 0
-Leaves t store output answer store′ output′ = (answer ≡ answered t) × (store′ ≡ storeBy t store) × (output′ ≡ outputBy t output)
-
-pub leaves-refused : (t : Answer Taken) (store output output′ : List ℕ) (n a : ℕ) → t ≡ refused n a → output′ ≡ output
-    → Leaves t store output (refused n a) store output′
-leaves-refused t store output output′ n a e f = rw e (refl, refl, f)
-
--- ---- a packet that is ahead and has been read: z, y its flags, k bytes of the store joined, `from` elements thrown away, those up to `to` finished
-
-pub record Taking (state : State) (number : ℕ) (payload store : List ℕ) (n : ℕ) (z y : Bool) (k from to : ℕ) : Type 0 where
-  pub stored : state .«open» ≤ length store
-  pub small : state .«open» ≤ fragmentLimit
-  pub forward : isAhead (state .begun) (state .last) number ≡ true
-  pub whole : payloadElements payload ≡ given (partsOf payload)
-  pub count : n ≡ length (partsOf payload)
-  pub z-is : z ≡ eqb (zBit (getD payload 0 0)) 1
-  pub y-is : y ≡ eqb (yBit (getD payload 0 0)) 1
-  pub k-is : k ≡ keptBytes (state .begun) (state .last) (state .«open») number z
+pub record Taking (i : Inputs) (all : Walked) (z y : Bool) (k from to : ℕ) : Type 0 where
+  pub opening : Opened i all
+  pub z-is : z ≡ eqb (zBit (getD (i .packet .payload) 0 0)) 1
+  pub y-is : y ≡ eqb (yBit (getD (i .packet .payload) 0 0)) 1
+  pub k-is : k ≡ keptBytes (i .state) (i .packet .label) z
   pub from-is : from ≡ thrown z k
-  pub to-is : to ≡ finishedEnd y n
+  pub to-is : to ≡ finishedEnd y (all .elements)
 
-module _ (state : State) (number : ℕ) (payload store : List ℕ) (n : ℕ) (z y : Bool) (k from to : ℕ) (s : Taking state number payload store n z y k from to) where
+module _ {i : Inputs} {all : Walked} {z y : Bool} {k from to : ℕ} (s : Taking i all z y k from to) where
+  abbrev payload : List ℕ
+  payload = i .packet .payload
+
+  abbrev store : List ℕ
+  store = i .store
+
+  abbrev space : ℕ
+  space = length store
+
+  abbrev room : ℕ
+  room = length (i .output)
+
   abbrev es : List (List ℕ)
   es = map (bytesOf payload) (partsOf payload)
 
   abbrev js : List (List ℕ)
   js = led (take k store) (drop from es)
 
-  -- what is then held
-  abbrev pub after : Held
-  after = record { begun = true; last = number; fragment = left y js }
+  abbrev before : Held
+  before = heldIn (i .state) store
 
-  -- what is lost
-  abbrev pub gone : Lost
-  gone = record { fragment = ltb k (state .«open»); element = ltb 0 from }
+  abbrev goes : Bool
+  goes = follows (i .state .begun) (lastOf (i .state)) (i .packet .label)
 
-  -- what is answered, with so many bytes left open and so many handed out
-  abbrev pub says : ℕ → ℕ → Answer Received
-  says size count =
-      given
-      (record {
-        state = record { begun = true; last = number; «open» = size };
-        bytes = count;
-        «fragment_lost» = gone .fragment;
-        «element_lost» = gone .element;
-      })
+  open-in : (i .state .«open» ≤ space) × (i .state .«open» ≤ fragmentLimit)
+  open-in = long-not (s .opening .possible)
 
-  taken-lost : lost (heldIn state store) number (record { z = z; y = y; elements = es }) ≡ gone
+  -- what the packet leads to, where these bytes go out
+  abbrev leads : List ℕ → Taken
+  leads bytes =
+      record {
+        held = holding (i .packet .label) (left y js);
+        bytes = bytes;
+        lost = record { fragment = ltb k (i .state .«open»); element = ltb 0 from };
+      }
+
+  abbrev wiredBy : Answer (List ℕ) → Answer Taken
+  wiredBy (given bytes) = fitted space room (leads bytes)
+  wiredBy (refused n at) = refused n at
+
+  -- the packet taken apart
+  abbrev apart : Packet
+  apart = record { z = z; y = y; elements = es }
+
+  taken-lost : lost before (i .packet .label) apart ≡ leads [] .lost
   unfolding lost
   taken-lost =
-      let l = lost-is store (state .«open») z (isInStep (state .begun) (state .last) number) k from (s .stored) (s .k-is) (s .from-is) in
+      let l = lost-is store (i .state .«open») z goes k from (open-in .0) (s .k-is) (s .from-is) in
       ap₂ (λ (f e : Bool). record { fragment = f; element = e }) (l .0) (l .1)
 
-  taken-joined : joined (joinable (heldIn state store) number) z es ≡ js
-  taken-joined = joined-is store (state .«open») z (isInStep (state .begun) (state .last) number) es k from (s .stored) (s .k-is) (s .from-is)
+  taken-joined : withFragment (joinable before (i .packet .label)) z es ≡ js
+  taken-joined = joined-is store (i .state .«open») z goes es k from (open-in .0) (s .k-is) (s .from-is)
 
   taken-finished : finished y js ≡ between store k payload from to
   taken-finished =
-      finished-is y (take k store) es from n (s .count ∙ sym (length-map (partsOf payload) (bytesOf payload)))
+      finished-is y (take k store) es from (all .elements) (read-count (s .opening .read) ∙ sym (length-map (partsOf payload) (bytesOf payload)))
       ∙ ap (λ (m : ℕ). take (m - from) js) (sym (s .to-is))
 
-  pub opened-is : (space room : ℕ) → opened space room (heldIn state store) number (packetOf payload) ≡ fitted space room after gone (wires (between store k payload from to))
-  unfolding next out handed keptOpen
-  opened-is space room =
-      let h : Held = heldIn state store in
-      ap (λ (a : Answer (List _)). opened space room h number (packetBy payload a)) (s .whole)
-      ∙ rw (← s .z-is, ← s .y-is, s .forward, taken-lost, taken-joined, taken-finished)
+  taken-next : next before (i .packet .label) apart ≡ leads [] .held
+  unfolding next keptOpen
+  taken-next = rw (s .opening .forward, taken-joined)
 
-  pub kept-most : (k ≤ length store) × (k ≤ fragmentLimit)
-  kept-most = go (z && isInStep (state .begun) (state .last) number) (s .k-is)
+  taken-out : out before (i .packet .label) apart ≡ between store k payload from to
+  unfolding out handed
+  taken-out = rw (s .opening .forward, taken-joined) taken-finished
+
+  outcome-is : outcome i ≡ wiredBy (wires (between store k payload from to))
+  outcome-is =
+      outcome-opened i (s .opening)
+      ∙ ap (λ (a : Answer (List _)). opened space room before (i .packet .label) (packetBy payload a)) (s .opening .read .whole)
+      ∙ ap₂ (λ (a b : Bool). opened space room before (i .packet .label) (given (record { z = a; y = b; elements = es }))) (sym (s .z-is)) (sym (s .y-is))
+      ∙ go (wires (out before (i .packet .label) apart))
+      ∙ ap (λ (os : List (List ℕ)). wiredBy (wires os)) taken-out
     where
-      go : (t : Bool) → k ≡ cond t (state .«open») 0 → (k ≤ length store) × (k ≤ fragmentLimit)
-      go true e = (omega (arith, s .stored), omega (arith, s .small))
+      go : (a : Answer (List ℕ)) → wired space room before (i .packet .label) apart a ≡ wiredBy a
+      go (given bytes) = rw (taken-next, taken-lost)
+      go (refused n at) = refl
+
+  pub kept-most : (k ≤ space) × (k ≤ fragmentLimit)
+  kept-most = go (z && goes) (s .k-is)
+    where
+      go : (t : Bool) → k ≡ cond t (i .state .«open») 0 → (k ≤ space) × (k ≤ fragmentLimit)
+      go true e = (omega (arith, open-in), omega (arith, open-in))
       go false e = (omega arith, omega arith)
 
   pub from-most : from ≤ 1
   from-most = rw (s .from-is) (by-cond (λ (m : ℕ). m ≤ 1) (z && eqb k 0) 1 0 (λ t. omega arith) (λ t. omega arith))
 
-  pub to-most : to ≤ n
-  to-most = rw (s .to-is) (by-cond (λ (m : ℕ). m ≤ n) y (n - 1) n (λ t. omega arith) (λ t. omega arith))
+  to-most : to ≤ all .elements
+  to-most = rw (s .to-is) (by-cond (λ (m : ℕ). m ≤ all .elements) y (all .elements - 1) (all .elements) (λ t. omega arith) (λ t. omega arith))
 
-  pub first-at : (i at : ℕ) → i ≡ getD (partsOf payload) 0 nowhere .next → at ≡ cond (eqb from 0) 1 i → at ≡ cursorOf (partsOf payload) from
-  first-at i at e f =
+  -- what is asked before it is handed out
+  pub finishing : (at : ℕ) → at ≡ cond (eqb from 0) 1 (all .kept .next) → Finishing payload at from to store k
+  finishing at f =
+      let r = s .opening .read in
       let d : from - 1 ≡ 0 = omega (arith, from-most) in
-      f ∙ rw (d, e)
+      record {
+        whole = r .whole;
+        cursor-is = f ∙ rw (d, read-first r);
+        from-in = omega (arith, from-most, elements-some _ _ (r .whole));
+        to-in = omega (arith, to-most, read-count r);
+        stored = kept-most .0;
+        small = kept-most .1;
+      }
 
-  module _ (output : List ℕ) where
-    abbrev outcome : Answer Taken
-    outcome = opened (length store) (length output) (heldIn state store) number (packetOf payload)
+  pub taking-broken : {m a : ℕ} {output : List ℕ} → wires (between store k payload from to) ≡ refused m a → output ≡ i .output
+      → leaves (refused m a) store output ≡ received i
+  taking-broken e f = leaves-refused i (outcome-is ∙ ap wiredBy e) f
 
-    pub taking-broken : (m a : ℕ) (output′ : List ℕ) → wires (between store k payload from to) ≡ refused m a → output′ ≡ output
-        → Leaves outcome store output (refused m a) store output′
-    taking-broken m a output′ e f =
-        leaves-refused outcome store output output′ m a (opened-is (length store) (length output) ∙ ap (fitted (length store) (length output) after gone) e) f
+  -- what goes out is counted, and what is left open found
+  module _ {bytes : List ℕ} (w : wires (between store k payload from to) ≡ given bytes) {r : Fragment} (q : r ≡ leftOpen y from all k) where
+    pub left-it : LeftOpen payload y from k r
+    left-it = subst (LeftOpen payload y from k) (sym q) (left-is (s .opening .read) from k y)
 
-    module _ (bytes : List ℕ) (r : Fragment) (size : ℕ) (w : wires (between store k payload from to) ≡ given bytes) (l : Left payload y from k r) (e : size ≡ r .kept + r .size) where
-      fragment-length : length (left y js) ≡ size
-      fragment-length =
-          ap length (sym (l .2 store))
-          ∙ across-length store payload (r .kept) (r .start) (r .size) (omega (arith, l .0, kept-most .0)) (l .1)
-          ∙ sym e
+    fragment-length : r .kept + r .size ≡ length (left y js)
+    fragment-length =
+        sym (across-length store payload (r .kept) (r .start) (r .size) (omega (arith, left-it .kept-most, kept-most .0)) (left-it .lies))
+        ∙ ap length (left-it .bytes store)
 
-      opened-given : outcome ≡ fitted (length store) (length output) after gone (given bytes)
-      opened-given = opened-is (length store) (length output) ∙ ap (fitted (length store) (length output) after gone) w
+    outcome-given : outcome i ≡ fitted space room (leads bytes)
+    outcome-given = outcome-is ∙ ap wiredBy w
 
-      pub taking-store : length store < size → (output′ : List ℕ) → output′ ≡ output → Leaves outcome store output (refused 19 0) store output′
-      taking-store h output′ f =
-          leaves-refused outcome store output output′ 19 0
-          (opened-given ∙ fitted-store (length store) (length output) after gone bytes (omega (arith, fragment-length))) f
+    pub taking-long : {output : List ℕ} → tooLong space (r .kept + r .size) ≡ true → output ≡ i .output → leaves (refused 19 0) store output ≡ received i
+    taking-long h f = leaves-refused i (outcome-given ∙ fitted-long space room (leads bytes) (rw fragment-length at h)) f
 
-      pub taking-limit : size ≤ length store → fragmentLimit < size → (output′ : List ℕ) → output′ ≡ output → Leaves outcome store output (refused 19 0) store output′
-      taking-limit g h output′ f =
-          leaves-refused outcome store output output′ 19 0
-          (opened-given ∙ fitted-limit (length store) (length output) after gone bytes (omega (arith, fragment-length)) (omega (arith, fragment-length))) f
+    module _ (h : tooLong space (r .kept + r .size) ≡ false) where
+      fits : tooLong space (length (left y js)) ≡ false
+      fits = rw fragment-length at h
 
-      pub taking-output : size ≤ length store → size ≤ fragmentLimit → length output < length bytes → (output′ : List ℕ) → output′ ≡ output
-          → Leaves outcome store output (refused 20 0) store output′
-      taking-output g h i output′ f =
-          leaves-refused outcome store output output′ 20 0
-          (opened-given ∙ fitted-output (length store) (length output) after gone bytes (omega (arith, fragment-length)) (omega (arith, fragment-length)) i) f
+      pub taking-output : {output : List ℕ} → room < length bytes → output ≡ i .output → leaves (refused 20 0) store output ≡ received i
+      taking-output o f = leaves-refused i (outcome-given ∙ fitted-output space room (leads bytes) fits o) f
 
       -- the bytes of the fragment stored, behind those that are there already
-      kept-stored : (store′ : List ℕ) → store′ ≡ replaced store (r .kept) (take (r .size) (drop (r .start) payload)) → store′ ≡ front (left y js) store
-      kept-stored store′ f =
+      kept-stored : {store′ : List ℕ} → store′ ≡ replaced store (r .kept) (take (r .size) (drop (r .start) payload)) → store′ ≡ front (left y js) store
+      kept-stored f =
           let b : List ℕ = take (r .size) (drop (r .start) payload) in
-          let q : length (take (r .kept) store) ≡ r .kept = length-take-le (r .kept) store (omega (arith, l .0, kept-most .0)) in
+          let q : length (take (r .kept) store) ≡ r .kept = length-take-le (r .kept) store (omega (arith, left-it .kept-most, kept-most .0)) in
           let m : r .kept + length b ≡ length (fragmentOf store payload r) = omega (arith, length-append (take (r .kept) store) b) in
           f
-          ∙ ap (λ (i : ℕ). fragmentOf store payload r ++ drop i store) m
-          ∙ ap (λ (x : List ℕ). front x store) (l .2 store)
+          ∙ ap (λ (x : ℕ). fragmentOf store payload r ++ drop x store) m
+          ∙ ap (λ (x : List ℕ). front x store) (left-it .bytes store)
 
-      pub taking-all : size ≤ length store → size ≤ fragmentLimit → length bytes ≤ length output → (count : ℕ) (store′ output′ : List ℕ) → count ≡ length bytes
-          → store′ ≡ replaced store (r .kept) (take (r .size) (drop (r .start) payload)) → output′ ≡ front bytes output
-          → Leaves outcome store output (says size count) store′ output′
-      taking-all g h i count store′ output′ c f o =
-          let t : outcome ≡ given (record { held = after; bytes = bytes; lost = gone }) =
-          opened-given ∙ fitted-all (length store) (length output) after gone bytes (omega (arith, fragment-length)) (omega (arith, fragment-length)) i in
-          rw t (
-            ap₂ says (sym fragment-length) c,
-            kept-stored store′ f,
-            o,
-          )
+      pub taking-all : length bytes ≤ room → {count : ℕ} {store′ output′ : List ℕ} → count ≡ length bytes
+          → store′ ≡ replaced store (r .kept) (take (r .size) (drop (r .start) payload)) → output′ ≡ front bytes (i .output)
+          → leaves
+          (given
+          (record {
+            state = stateBy true (i .packet .label) (r .kept + r .size);
+            bytes = count;
+            «fragment_lost» = ltb k (i .state .«open»);
+            «element_lost» = ltb 0 from;
+          }))
+          store′ output′ ≡ received i
+      taking-all o {count} {store′} {output′} c f p =
+          let t : outcome i ≡ given (leads bytes) = outcome-given ∙ fitted-all space room (leads bytes) fits o in
+          rw (t, c, kept-stored f, p, fragment-length)

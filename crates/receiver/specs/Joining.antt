@@ -4,22 +4,30 @@ use mathlib.Core.List.{List, [], _∷_, _++_}
 use mathlib.Core.Bool.{Bool, true, false, cond, not, _&&_, _||_}
 use lib.ListN.{length}
 use lib.Dec.{leb, ltb, eqb}
+use Rattle.base.specs.Numbers.{packetNumbers}
 use Rattle.receiver.specs.Packet.{Packet}
 
--- V1: whether something was taken, the last number taken, and the open fragment; none is the empty list
+-- what the receiver is told of a packet beside its payload
+pub record Label : Type 0 where
+  pub number : ℕ
+
+abbrev pub label : ℕ → Label
+label number = record { number = number }
+
+-- V1: whether something was taken, the label of the last packet taken, and the open fragment; none is the empty list
 pub record Held : Type 0 where
   pub begun : Bool
-  pub last : ℕ
+  pub last : Label
   pub fragment : List ℕ
 
 abbrev pub fresh : Held
-fresh = record { begun = false; last = 0; fragment = [] }
+fresh = record { begun = false; last = label 0; fragment = [] }
 
 -- ---- numbers
 
 -- V2: how far it is forward from the last number, modulo 65,536
 abbrev pub distance : ℕ → ℕ → ℕ
-distance last number = (number + 65536 - last) % 65536
+distance last number = (number + packetNumbers - last) % packetNumbers
 
 -- L10
 abbrev pub furthestAhead : ℕ
@@ -32,24 +40,25 @@ isAhead begun last number = not begun || (leb 1 (distance last number) && leb (d
 unfoldable pub isInStep : Bool → ℕ → ℕ → Bool
 isInStep begun last number = begun && eqb (distance last number) 1
 
-abbrev pub ahead : Held → ℕ → Bool
-ahead h number = isAhead (h .begun) (h .last) number
-
-abbrev pub inStep : Held → ℕ → Bool
-inStep h number = isInStep (h .begun) (h .last) number
+abbrev pub ahead : Held → Label → Bool
+ahead h l = isAhead (h .begun) (h .last .number) (l .number)
 
 -- ---- elements
 
--- V5: the fragment that the first element of a packet may join
-abbrev pub joinable : Held → ℕ → List ℕ
-joinable h number = cond (inStep h number) (h .fragment) []
+-- V5: whether a packet goes on from the last one taken
+unfoldable pub follows : Bool → Label → Label → Bool
+follows begun last l = isInStep begun (last .number) (l .number)
+
+-- the fragment that the first element of a packet may join
+abbrev pub joinable : Held → Label → List ℕ
+joinable h l = cond (follows (h .begun) (h .last) l) (h .fragment) []
 
 -- V6: with Z, the first element joins that fragment, or is thrown away where there is none
-unfoldable pub joined : List ℕ → Bool → List (List ℕ) → List (List ℕ)
-joined fragment false es = es
-joined fragment true [] = []
-joined [] true (e ∷ es) = es
-joined (b ∷ fragment) true (e ∷ es) = ((b ∷ fragment) ++ e) ∷ es
+unfoldable pub withFragment : List ℕ → Bool → List (List ℕ) → List (List ℕ)
+withFragment fragment false es = es
+withFragment fragment true [] = []
+withFragment [] true (e ∷ es) = es
+withFragment (b ∷ fragment) true (e ∷ es) = ((b ∷ fragment) ++ e) ∷ es
 
 -- what a packet throws away: an open fragment, its first element
 pub record Lost : Type 0 where
@@ -61,11 +70,11 @@ abbrev pub some : List ℕ → Bool
 some fragment = ltb 0 (length fragment)
 
 -- V5: the open fragment, unless with Z the first element joins it; V6: with Z, the first element, where there is none to join
-unfoldable pub lost : Held → ℕ → Packet → Lost
-lost h number p =
+unfoldable pub lost : Held → Label → Packet → Lost
+lost h l p =
     record {
-      fragment = some (h .fragment) && not (p .z && some (joinable h number));
-      element = p .z && not (some (joinable h number));
+      fragment = some (h .fragment) && not (p .z && some (joinable h l));
+      element = p .z && not (some (joinable h l));
     }
 
 -- V8: with Y, all but the last are finished
@@ -84,17 +93,21 @@ left true (j ∷ i ∷ js) = left true (i ∷ js)
 
 -- the OBUs that a packet finishes, and the fragment that it leaves open, where its first element may join `fragment`
 unfoldable pub handed : List ℕ → Packet → List (List ℕ)
-handed fragment p = finished (p .y) (joined fragment (p .z) (p .elements))
+handed fragment p = finished (p .y) (withFragment fragment (p .z) (p .elements))
 
 unfoldable pub keptOpen : List ℕ → Packet → List ℕ
-keptOpen fragment p = left (p .y) (joined fragment (p .z) (p .elements))
+keptOpen fragment p = left (p .y) (withFragment fragment (p .z) (p .elements))
 
--- ---- a packet with its number; one that is not ahead changes nothing and finishes nothing
+-- ---- a packet with its label; one that is not ahead changes nothing and finishes nothing
 
--- V13: what is held after it
-unfoldable pub next : Held → ℕ → Packet → Held
-next h number p = cond (ahead h number) (record { begun = true; last = number; fragment = keptOpen (joinable h number) p }) h
+-- V13: what is held once it is taken, where it leaves these bytes open
+abbrev pub holding : Label → List ℕ → Held
+holding l fragment = record { begun = true; last = l; fragment = fragment }
+
+-- what is held after it
+unfoldable pub next : Held → Label → Packet → Held
+next h l p = cond (ahead h l) (holding l (keptOpen (joinable h l) p)) h
 
 -- the OBUs that it finishes
-unfoldable pub out : Held → ℕ → Packet → List (List ℕ)
-out h number p = cond (ahead h number) (handed (joinable h number) p) []
+unfoldable pub out : Held → Label → Packet → List (List ℕ)
+out h l p = cond (ahead h l) (handed (joinable h l) p) []

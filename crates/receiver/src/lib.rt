@@ -1,30 +1,19 @@
 // The receiver (V1 to V17): one packet taken, its finished OBUs handed out, the fragment that it leaves open kept in the store.
 use base::Refusal;
-use element::ElementRead;
-use element::Part;
 use element::Walk;
+use element::Walked;
 use handing::Fragment;
 use handing::HandedOut;
 ghost use mathlib.Core.Path.{_≡_};
-ghost use Prim.Native.Nat.{ℕ, _+_, _-_, _≤_, _<_};
-ghost use mathlib.Core.Bool.{true, cond};
-ghost use mathlib.Core.List.{List, map};
-ghost use lib.ListN.{length, take, drop, getD};
+ghost use Prim.Native.Nat.{_≤_};
+ghost use mathlib.Core.Bool.{cond};
 ghost use lib.Dec.{eqb};
-ghost use Rattle.base.specs.Answers.{given};
-ghost use Rattle.element.specs.Elements.{payloadElements, bytesOf, nowhere};
-ghost use Rattle.handing.specs.Handing.{fragmentLimit};
-ghost use Rattle.handing.specs.Inside.{partsOf, led};
-ghost use Rattle.handing.specs.Paper.{fragmentOf};
-ghost use Rattle.receiver.specs.Joining.{distance, isAhead, isInStep, left};
-ghost use Rattle.receiver.specs.Packet.{packetOf};
-ghost use Rattle.receiver.specs.Call.{heldIn, opened, answered, storeBy, outputBy, receiveAnswer, storeAfter, outputAfter};
-ghost use Rattle.receiver.specs.Inside.{keptBytes, thrown, finishedEnd};
+ghost use Rattle.receiver.specs.Joining.{distance, isAhead, isInStep, label};
+ghost use Rattle.receiver.specs.Call.{tooLong, inputs, leaves, received};
+ghost use Rattle.receiver.specs.Inside.{keptBytes, thrown, finishedEnd, leftOpen, Opened};
 ghost use Rattle.receiver.specs.Paper.{paper};
 
-// The most bytes of an open fragment, and the furthest that a packet can be ahead.
-const FRAGMENT_LIMIT: usize = 1048576;
-
+// The furthest that a packet can be ahead.
 const FURTHEST_AHEAD: u16 = 32767;
 
 // Whether something was taken, the last number taken, and how many bytes of the store are the open fragment.
@@ -33,6 +22,13 @@ pub struct State {
     pub last: u16,
     pub open: usize,
 }
+
+// A fresh state: nothing was taken, and nothing is open.
+pub const FRESH: State = State {
+    begun: false,
+    last: 0,
+    open: 0,
+};
 
 // What a packet that is taken gives: the new state, how many bytes go out, and whether an open fragment, and whether an element, was thrown away.
 pub struct Received {
@@ -81,7 +77,7 @@ fn is_in_step(begun: bool, last: u16, number: u16) -> bool
 
 // How many bytes of the open fragment the first element joins.
 fn joining(state: State, number: u16, z: bool) -> usize
-    ensures { λ r. ⌜ r ≡ keptBytes (state .begun) (state .last) (state .«open») number z ⌝ }
+    ensures { λ r. ⌜ r ≡ keptBytes state (label number) z ⌝ }
 {
     if z {
         if is_in_step(state.begun, state.last, number) {
@@ -125,43 +121,15 @@ fn last_kept(n: usize, joined: usize) -> usize
     if n == 1 { joined } else { 0 }
 }
 
-// The last of n elements: an only one is read where it stands.
-fn last_element(payload: &[u8], n: usize) -> Part
-    requires { ⌜ (payloadElements (now payload) ≡ given (partsOf (now payload))) × (n ≡ length (partsOf (now payload))) ⌝ }
-    ensures { λ r. ⌜ r ≡ getD (partsOf (now (payload .entry))) (n - 1) nowhere ⌝ }
-{
-    if n == 1 {
-        let field = element::has_field(element::header_w(payload[0]), 0);
-        if let ElementRead::Found(part) = element::read_element(payload, 1, field) {
-            return part;
-        }
-    }
-    match element::walk_elements(payload, n - 1) {
-        Walk::Whole(all) => {
-            let last = all.kept;
-            last
-        }
-        // never, since the elements were read before
-        Walk::Refused { refusal: _, at: _ } => Part {
-            start: 0,
-            length: 0,
-            next: 0,
-        },
-    }
-}
-
-// What is left open of elements `from` up to n: with Y the last, else nothing.
-fn left_open(payload: &[u8], y: bool, from: usize, n: usize, joined: usize) -> Fragment
-    requires { ⌜ (payloadElements (now payload) ≡ given (partsOf (now payload))) × (n ≡ length (partsOf (now payload))) ⌝ }
-    ensures { λ r. ⌜ (r .kept ≤ joined) × (r .start + r .size ≤ length (now (payload .entry)))
-        × ((store : List ℕ) → fragmentOf store (now (payload .entry)) r
-        ≡ left y (led (take joined store) (drop from (map (bytesOf (now (payload .entry))) (partsOf (now (payload .entry))))))) ⌝ }
+// What is left open of the elements from `from` on: with Y the last, else nothing.
+fn left_open(y: bool, from: usize, all: Walked, joined: usize) -> Fragment
+    ensures { λ r. ⌜ r ≡ leftOpen y from all joined ⌝ }
 {
     if y {
-        if from < n {
-            let last = last_element(payload, n);
+        if from < all.elements {
+            let last = all.last;
             return Fragment {
-                kept: last_kept(n - from, joined),
+                kept: last_kept(all.elements - from, joined),
                 start: last.start,
                 size: last.length,
             };
@@ -174,43 +142,47 @@ fn left_open(payload: &[u8], y: bool, from: usize, n: usize, joined: usize) -> F
     }
 }
 
-// A packet that is ahead and has been read, into n elements, the first of which ends at `next`: everything is checked first and written after.
+// So many open bytes are more than the space of the store, or than a fragment may have.
+fn too_long(size: usize, space: usize) -> bool
+    ensures { λ r. ⌜ r ≡ tooLong space size ⌝ }
+{
+    if size > space {
+        return true;
+    }
+    size > handing::FRAGMENT_LIMIT
+}
+
+// A packet that is ahead and has been read: everything is checked first and written after.
 fn take_packet(
     state: State,
     number: u16,
     payload: &[u8],
-    n: usize,
-    next: usize,
+    all: Walked,
     store: &mut [u8],
     out: &mut [u8],
 ) -> Receipt
-    requires { ⌜ (state .«open» ≤ length (now store)) × (state .«open» ≤ fragmentLimit) × (isAhead (state .begun) (state .last) number ≡ true)
-        × (payloadElements (now payload) ≡ given (partsOf (now payload))) × (n ≡ length (partsOf (now payload)))
-        × (next ≡ getD (partsOf (now payload)) 0 nowhere .next) ⌝ }
-    ensures { λ r. ⌜ (paper r ≡ answered (opened (length (now (store .entry))) (length (now (out .entry))) (heldIn state (now (store .entry))) number (packetOf (now (payload .entry)))))
-        × (now (store .exit) ≡ storeBy (opened (length (now (store .entry))) (length (now (out .entry))) (heldIn state (now (store .entry))) number (packetOf (now (payload .entry)))) (now (store .entry)))
-        × (now (out .exit) ≡ outputBy (opened (length (now (store .entry))) (length (now (out .entry))) (heldIn state (now (store .entry))) number (packetOf (now (payload .entry)))) (now (out .entry))) ⌝ }
+    requires { ⌜ Opened (inputs state number (now payload) (now store) (now out)) all ⌝ }
+    ensures { λ r. ⌜ leaves (paper r) (now (store .exit)) (now (out .exit)) ≡ received (inputs state number (now (payload .entry)) (now (store .entry)) (now (out .entry))) ⌝ }
 {
     let header = payload[0];
     let z = element::header_z(header);
     let y = element::header_y(header);
     let joined = joining(state, number, z);
     let from = thrown_away(z, joined);
-    let cursor = first_cursor(from, next);
-    let to = finished_end(y, n);
+    let first = all.kept;
+    let cursor = first_cursor(from, first.next);
+    let to = finished_end(y, all.elements);
     match handing::count_out(payload, cursor, from, to, store, joined, out) {
         HandedOut::Refused(refusal) => Receipt::Refused(refusal),
-        HandedOut::Bytes(bytes) => {
-            let left = left_open(payload, y, from, n, joined);
+        HandedOut::Bytes(handed) => {
+            let bytes = handed.bytes;
+            let left = left_open(y, from, all, joined);
             let size = left.kept + left.size;
-            if size > store.len() {
-                return Receipt::Refused(Refusal::FragmentTooLong);
-            }
-            if size > FRAGMENT_LIMIT {
+            if too_long(size, store.len()) {
                 return Receipt::Refused(Refusal::FragmentTooLong);
             }
             if bytes > out.len() {
-                return Receipt::Refused(Refusal::OutputTooShort);
+                return Receipt::Refused(Refusal::NoRoomForObus);
             }
             handing::write_out(payload, cursor, from, to, store, joined, out);
             handing::copy(store, left.kept, payload, left.start, left.size);
@@ -237,14 +209,9 @@ pub fn receive(
     store: &mut [u8],
     out: &mut [u8],
 ) -> Receipt
-    ensures { λ r. ⌜ (paper r ≡ receiveAnswer state number (now (payload .entry)) (now (store .entry)) (now (out .entry)))
-        × (now (store .exit) ≡ storeAfter state number (now (payload .entry)) (now (store .entry)) (now (out .entry)))
-        × (now (out .exit) ≡ outputAfter state number (now (payload .entry)) (now (store .entry)) (now (out .entry))) ⌝ }
+    ensures { λ r. ⌜ leaves (paper r) (now (store .exit)) (now (out .exit)) ≡ received (inputs state number (now (payload .entry)) (now (store .entry)) (now (out .entry))) ⌝ }
 {
-    if state.open > store.len() {
-        return Receipt::Refused(Refusal::StateImpossible);
-    }
-    if state.open > FRAGMENT_LIMIT {
+    if too_long(state.open, store.len()) {
         return Receipt::Refused(Refusal::StateImpossible);
     }
     if payload.len() == 0 {
@@ -255,10 +222,7 @@ pub fn receive(
     }
     if is_ahead(state.begun, state.last, number) {
         match element::walk_elements(payload, 0) {
-            Walk::Whole(all) => {
-                let first = all.kept;
-                take_packet(state, number, payload, all.elements, first.next, store, out)
-            }
+            Walk::Whole(all) => take_packet(state, number, payload, all, store, out),
             Walk::Refused { refusal, at: _ } => Receipt::Refused(refusal),
         }
     } else {

@@ -1,4 +1,4 @@
--- For every enum that a call answers with: the number and values that the rules have for it tell its cases apart (A3). Each definition
+-- For every enum that a call answers with: the number and values that the rules have for it tell its cases apart (K3). Each definition
 -- is undone case by case, and one law, `tells-apart`, does the rest. Assumes nothing.
 use mathlib.Core.Path.{_≡_, refl, ap}
 use Prim.Native.Nat.{ℕ}
@@ -37,6 +37,7 @@ use Rattle.receiver.specs.declared.Receipt.{Receipt}
 use Rattle.receiver.specs.declared.Receipt.the-variants as receipt
 use Rattle.train.specs.Train as train
 use Rattle.train.specs.Paper as trains
+use Rattle.train.specs.declared.TrainHead.{TrainHead}
 use Rattle.train.specs.declared.HeadRead.{HeadRead}
 use Rattle.train.specs.declared.HeadRead.the-variants as head
 use Rattle.train.specs.declared.LengthRead.{LengthRead}
@@ -88,14 +89,10 @@ whole-one = tells-apart obu.paperWhole wholeBack undone
     undone (read.Found f) = refl
     undone (read.Refused r) = ap read.Refused (number-names r)
 
-listBack : Answer ℕ → ObuList
-listBack = back (λ n. list.Listed (record { obus = n })) list.Refused
-
 pub list-one : (a b : ObuList) → obu.paperList a ≡ obu.paperList b → a ≡ b
-unfolding listBack
-list-one = tells-apart obu.paperList listBack undone
+list-one = tells-apart obu.paperList (back list.Listed list.Refused) undone
   where
-    undone : (r : ObuList) → listBack (obu.paperList r) ≡ r
+    undone : (r : ObuList) → back list.Listed list.Refused (obu.paperList r) ≡ r
     undone (list.Listed l) = refl
     undone (list.Refused r at) = ap (λ (q : Refusal). list.Refused q at) (number-names r)
 
@@ -158,8 +155,8 @@ handed-one = tells-apart handing.paperHanded (back handed.Bytes (λ r at. handed
 
 -- ---- trains
 
-headBack : Answer ℕ → HeadRead
-headBack = back (λ v. head.Train (record { version = v })) (λ r at. head.Refused r)
+headBack : Answer TrainHead → HeadRead
+headBack = back head.Train (λ r at. head.Refused r)
 
 pub head-one : (a b : HeadRead) → trains.paperHead a ≡ trains.paperHead b → a ≡ b
 unfolding headBack

@@ -1,16 +1,18 @@
 -- Each public call is settled, by one law: its contract says one fact, and the fact leaves one outcome. Assumes nothing.
-use mathlib.Core.Path.{_≡_, refl, sym, ap₂, _∙_}
+use mathlib.Core.Path.{_≡_, refl, sym, ap, ap₂, _∙_}
 use Prim.Native.Nat.{ℕ}
 use mathlib.Core.List.{List}
-use Rattle.obu.specs.Unit.{flat}
+use Rattle.base.specs.Answers.{Answer}
+use Rattle.obu.specs.Records.{flat, obusIn}
 use Rattle.obu.specs.declared.Obu.{Obu}
-use Rattle.packetizer.specs.Plan.{flatPlan}
+use Rattle.packetizer.specs.Call as plan
+use Rattle.packetizer.specs.Records.{flatPlan, packetsIn}
 use Rattle.packetizer.specs.declared.PacketMetadata.{PacketMetadata}
 use Rattle.aggregation.specs.Header.{headerOf}
-use Rattle.aggregation.specs.Flat.{obusIn, packetsIn}
 use Rattle.aggregation.specs.Paper.{paper}
 use Rattle.aggregation.specs.declared.HeaderAnswer.{HeaderAnswer}
 use Rattle.aggregation.proofs.Headers.{alike}
+use Rattle.payloader.specs.Call as written
 use Rattle.leb128.proofs.read_leb128 as readLeb128
 use Rattle.obu.proofs.parse_obus as parseObus
 use Rattle.packetizer.proofs.plan_unit as planUnit
@@ -19,6 +21,8 @@ use Rattle.aggregation.proofs.header_of as headerOf
 use Rattle.payloader.proofs.payload as payload
 use Rattle.element.proofs.walk_elements as walkElements
 use Rattle.element.proofs.element as element
+use Rattle.receiver.specs.Call.{After}
+use Rattle.receiver.specs.declared.Received.{Received}
 use Rattle.receiver.proofs.receive as receive
 use Rattle.train.proofs.read_head as readHead
 use Rattle.train.proofs.read_length as readLength
@@ -49,8 +53,8 @@ parse-obus =
 pub plan-unit : Settled planUnit.ended (λ M. planUnit.clauses)
 plan-unit =
     settles planUnit.ended _ _ _ (λ M 𝓤 H A mem run κs a. refl) (λ κs a x y p q. (
-      plan-one _ _ (meet (p .0) (q .0)),
-      λ i. (tt, (tt, (meet (p .1) (q .1) i, (meet (p .2) (q .2) i, tt)))),
+      plan-one _ _ (ap (λ (o : plan.After). o .answer) (meet p q)),
+      λ i. (tt, (tt, (ap (λ (o : plan.After). o .obus) (meet p q) i, (ap (λ (o : plan.After). o .plan) (meet p q) i, tt)))),
     ))
 
 pub get-aggregation-header : Settled getAggregationHeader.ended (λ M. getAggregationHeader.clauses)
@@ -64,8 +68,8 @@ header-of =
 pub payloads : Settled payload.ended (λ M. payload.clauses)
 payloads =
     settles payload.ended _ _ _ (λ M 𝓤 H A mem run κs a. refl) (λ κs a x y p q. (
-      payloads-one _ _ (meet (p .0) (q .0)),
-      λ i. (tt, (tt, (meet (p .1) (q .1) i, (meet (p .2) (q .2) i, (meet (p .3) (q .3) i, tt))))),
+      payloads-one _ _ (ap (λ (o : written.After). o .answer) (meet p q)),
+      λ i. (tt, (tt, (ap (λ (o : written.After). o .obus) (meet p q) i, (ap (λ (o : written.After). o .plan) (meet p q) i, (ap (λ (o : written.After). o .out) (meet p q) i, tt))))),
     ))
 
 -- the header call in its two forms: the same records, the same answer
@@ -85,8 +89,8 @@ element-of =
 pub received : Settled receive.ended (λ M. receive.clauses)
 received =
     settles receive.ended _ _ _ (λ M 𝓤 H A mem run κs a. refl) (λ κs a x y p q. (
-      receipt-one _ _ (meet (p .0) (q .0)),
-      λ i. (tt, (tt, (tt, (meet (p .1) (q .1) i, (meet (p .2) (q .2) i, tt))))),
+      receipt-one _ _ (ap (λ (o : After (Answer Received)). o .answer) (meet p q)),
+      λ i. (tt, (tt, (tt, (ap (λ (o : After (Answer Received)). o .store) (meet p q) i, (ap (λ (o : After (Answer Received)). o .output) (meet p q) i, tt))))),
     ))
 
 -- ---- trains

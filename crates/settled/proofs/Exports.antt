@@ -30,8 +30,8 @@ list-obus =
 pub plan-unit : Settled plan.ended (λ M. plan.clauses)
 plan-unit =
     settles plan.ended _ _ _ (λ M 𝓤 H A mem run κs a. refl) (λ κs a x y p q. (
-      meet (p .0) (q .0),
-      λ i. (tt, (tt, (meet (p .2) (q .2) i, (meet (p .3) (q .3) i, (meet (p .1) (q .1) i, tt))))),
+      meet (p .number) (q .number),
+      λ i. (tt, (tt, (meet (p .obus-are) (q .obus-are) i, (meet (p .plan-is) (q .plan-is) i, (meet (p .words-are) (q .words-are) i, tt))))),
     ))
 
 pub header-of : Settled header.ended (λ M. header.clauses)
@@ -44,8 +44,8 @@ header-of =
 pub payloads : Settled payload.ended (λ M. payload.clauses)
 payloads =
     settles payload.ended _ _ _ (λ M 𝓤 H A mem run κs a. refl) (λ κs a x y p q. (
-      meet (p .0) (q .0),
-      λ i. (tt, (tt, (meet (p .2) (q .2) i, (meet (p .3) (q .3) i, (meet (p .4) (q .4) i, (meet (p .1) (q .1) i, tt)))))),
+      meet (p .number) (q .number),
+      λ i. (tt, (tt, (meet (p .obus-are) (q .obus-are) i, (meet (p .plan-is) (q .plan-is) i, (meet (p .out-is) (q .out-is) i, (meet (p .words-are) (q .words-are) i, tt)))))),
     ))
 
 pub element-of : Settled element.ended (λ M. element.clauses)
@@ -58,8 +58,8 @@ element-of =
 pub received : Settled receive.ended (λ M. receive.clauses)
 received =
     settles receive.ended _ _ _ (λ M 𝓤 H A mem run κs a. refl) (λ κs a x y p q. (
-      meet (p .0) (q .0),
-      λ i. (meet (p .2) (q .2) i, (tt, (tt, (meet (p .3) (q .3) i, (meet (p .4) (q .4) i, (meet (p .1) (q .1) i, tt)))))),
+      meet (p .number-is) (q .number-is),
+      λ i. (meet (p .state-is) (q .state-is) i, (tt, (tt, (meet (p .store-is) (q .store-is) i, (meet (p .output-is) (q .output-is) i, (meet (p .answer-is) (q .answer-is) i, tt)))))),
     ))
 
 pub train-head : Settled trainHead.ended (λ M. trainHead.clauses)

@@ -1,16 +1,18 @@
 -- Cut anywhere, a train gives a prefix of its packets: what stands before a bad record stands (T3). Over the width of the length field. Assumes nothing.
-use mathlib.Core.Path.{_≡_, refl, sym, ap, ap₂, _∙_}
-use Prim.Native.Nat.{ℕ, zero, suc, _+_, _-_, _≤_}
+use mathlib.Core.Path.{_≡_, refl, sym, ap, _∙_}
+use Prim.Native.Nat.{ℕ, zero, suc, _+_, _≤_}
 use native.Mathlib.Omega.{arith}
 use mathlib.Core.List.{List, [], _∷_, _++_}
-use mathlib.Core.Bool.{Bool, true, false, cond}
-use lib.ListN.{length, take, drop, length-append, length-drop, take-append-drop}
+use lib.ListN.{length, take, drop, length-append, length-drop}
 use lib.Seq.{take-append-le, drop-append-le}
-use lib.Dec.{eqb}
-use Rattle.base.specs.Answers.{given, refused}
-use Rattle.train.specs.Bytes.{valueOf}
-use Rattle.train.specs.Train.{Packet, trainVersion, numberWidth, stated, lengthOf, Front, ends, holds, stops, bodyOf, frontBy, frontOf, packetIn, followed, recordsFrom, headOf, trainBy, trainIn, standing}
-use Rattle.train.specs.Laws.{Prefix}
+use Rattle.base.specs.Answers.{Answer, given, refused}
+use Rattle.base.specs.BigEndian.{valueOf}
+use Rattle.base.specs.Lists.{Prefix}
+use Rattle.base.specs.Streams.{item}
+use Rattle.base.proofs.Lists.{prefix-none}
+use Rattle.base.proofs.Streams.{Same, stream-cut}
+use Rattle.train.specs.Train.{Numbered, numberWidth, stated, lengthOf, Front, ends, holds, stops, bodyOf, frontBy, frontOf, packetIn, ended, recordBy, recordNext, headWith, headOf, trainBy, trainIn, standing}
+use Rattle.train.specs.declared.TrainHead.{TrainHead}
 use Rattle.train.specs.declared.RecordHead.{RecordHead}
 use Rattle.train.proofs.Reading.{length-stated, stated-within, body-found, body-holds}
 use Rattle.train.proofs.Stepping.{front-by, front-spans}
@@ -47,50 +49,23 @@ packet-more w l m h e =
     (ap (take (h .length)) (drop-append-le (h .start) l m (omega arith))
     ∙ take-append-le (h .length) (drop (h .start) l) m (omega (arith, length-drop (h .start) l)))
 
--- ---- so the records of the first n bytes are a prefix
-
-none-first : (b : List Packet) → Prefix [] b
-none-first b = record { rest = b; is = refl }
-
--- a packet that the first bytes hold, and then the rest
-cut-held : (w b : ℕ) (l : List ℕ) (n : ℕ) (h : RecordHead) → frontOf w 0 (b ∷ take n l) ≡ holds h
-    → ((k : ℕ) → Prefix (recordsFrom w (take n l) k .packets) (recordsFrom w l k .packets))
-    → Prefix (packetIn (b ∷ take n l) h ∷ recordsFrom w (take n l) (h .start + h .length - 1) .packets)
-    (followed (b ∷ l) (frontOf w 0 (b ∷ l)) (λ k. recordsFrom w l (k - 1)) .packets)
-cut-held w b l n h e ih =
-    let c : List ℕ = b ∷ take n l in
-    let t : c ++ drop n l ≡ b ∷ l = take-append-drop (suc n) (b ∷ l) in
-    let f : frontOf w 0 (b ∷ l) ≡ holds h = ap (frontOf w 0) (sym t) ∙ front-more w 0 c (drop n l) h e in
-    let p : packetIn (b ∷ l) h ≡ packetIn c h = ap (λ (x : List ℕ). packetIn x h) (sym t) ∙ packet-more w c (drop n l) h e in
-    let g = ih (h .start + h .length - 1) in
-    record {
-      rest = g .rest;
-      is =
-          ap (λ (x : Front). followed (b ∷ l) x (λ k. recordsFrom w l (k - 1)) .packets) f
-          ∙ ap₂ (λ (q : Packet) (qs : List Packet). q ∷ qs) p (g .is);
-    }
-
-cut-from : (w : ℕ) (l : List ℕ) (skip n : ℕ) → Prefix (recordsFrom w (take n l) skip .packets) (recordsFrom w l skip .packets)
-unfolding recordsFrom
-cut-from w l skip zero = none-first (recordsFrom w l skip .packets)
-cut-from w [] skip (suc n) = none-first []
-cut-from w (b ∷ l) (suc skip) (suc n) = cut-from w l skip n
-cut-from w (b ∷ l) zero (suc n) = go (frontOf w 0 (b ∷ take n l)) refl (λ k. cut-from w l k n)
+-- so more bytes change no item
+record-same : (w : ℕ) (t : Unit {0}) (l m : List ℕ) → Same (recordNext w t l) (recordNext w t (l ++ m))
+record-same w t l m = go (frontOf w 0 l) refl
   where
-    go : (x : Front) → frontOf w 0 (b ∷ take n l) ≡ x
-        → ((k : ℕ) → Prefix (recordsFrom w (take n l) k .packets) (recordsFrom w l k .packets))
-        → Prefix (followed (b ∷ take n l) x (λ k. recordsFrom w (take n l) (k - 1)) .packets)
-        (followed (b ∷ l) (frontOf w 0 (b ∷ l)) (λ k. recordsFrom w l (k - 1)) .packets)
-    go ends e ih = none-first (followed (b ∷ l) (frontOf w 0 (b ∷ l)) (λ k. recordsFrom w l (k - 1)) .packets)
-    go (stops k) e ih = none-first (followed (b ∷ l) (frontOf w 0 (b ∷ l)) (λ k. recordsFrom w l (k - 1)) .packets)
-    go (holds h) e ih = cut-held w b l n h e ih
+    go : (x : Front) → frontOf w 0 l ≡ x → Same (recordBy l x) (recordNext w t (l ++ m))
+    go ends e = tt
+    go (stops k) e = tt
+    go (holds h) e =
+        ap (recordBy (l ++ m)) (front-more w 0 l m h e)
+        ∙ ap (λ (p : Numbered). item p (h .start + h .length) tt) (packet-more w l m h e)
 
-pub cut-prefix : (w : ℕ) (file : List ℕ) (n : ℕ) → Prefix (standing (trainIn w (take n file))) (standing (trainIn w file))
+pub cut-prefix : (file : List ℕ) (n : ℕ) → Prefix (standing (trainIn (take n file))) (standing (trainIn file))
 unfolding headOf
-cut-prefix w file zero = none-first (standing (trainIn w file))
-cut-prefix w [] (suc n) = none-first []
-cut-prefix w (v ∷ l) (suc n) = go (eqb v trainVersion)
+cut-prefix file zero = prefix-none (standing (trainIn file))
+cut-prefix [] (suc n) = prefix-none []
+cut-prefix (v ∷ l) (suc n) = go (headWith v)
   where
-    go : (t : Bool) → Prefix (standing (trainBy w (take n l) (cond t (given v) (refused 21 0)))) (standing (trainBy w l (cond t (given v) (refused 21 0))))
-    go true = cut-from w l 0 n
-    go false = none-first []
+    go : (a : Answer TrainHead) → Prefix (standing (trainBy (take n l) a)) (standing (trainBy l a))
+    go (given h) = stream-cut (recordNext (h .width)) ended (record-same (h .width)) n l tt
+    go (refused k at) = prefix-none []

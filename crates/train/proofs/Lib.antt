@@ -1,6 +1,6 @@
 -- What the proofs of the functions, and of callers, cite.
 pub mod Rows
-pub mod Numbers
+pub mod Fields
 pub mod Reading
 pub mod Stepping
 pub mod Written

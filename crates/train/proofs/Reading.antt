@@ -1,6 +1,6 @@
 -- One record at the front of some bytes, by the tests that the code makes. Assumes nothing.
 use mathlib.Core.Path.{_≡_, refl, sym, ap, subst, _∙_}
-use Prim.Native.Nat.{ℕ, _+_, _-_, _≤_, _<_}
+use Prim.Native.Nat.{ℕ, _+_, _-_, _^_, _≤_, _<_}
 use native.Mathlib.Omega.{arith}
 use mathlib.Core.List.{List, [], _∷_}
 use mathlib.Core.Bool.{Bool, true, false, cond}
@@ -8,14 +8,25 @@ use lib.ListN.{length, getD, take, drop, length-drop, drop-of-length-le}
 use lib.Seq.{drop-drop}
 use lib.Dec.{ltb, eqb}
 use borrow.Author.Tests.{lt-ltb, le-ltb, ltb-false, eq-eqb, ne-eqb}
-use Rattle.base.specs.Answers.{given, refused}
+use Rattle.base.specs.Answers.{Answer, given, refused}
+use Rattle.base.specs.Lists.{All}
+use Rattle.base.proofs.BigEndian.{value-below}
 use Rattle.base.proofs.Lists.{part-from}
 use Rattle.base.proofs.Tests.{by-cond}
-use Rattle.train.specs.Bytes.{valueOf}
-use Rattle.train.specs.Train.{trainVersion, leastStated, numberWidth, headOf, Length, over, stated, bad, lengthOf, Front, ends, holds, stops, bodyOf, frontBy, frontOf}
+use Rattle.base.specs.BigEndian.{valueOf}
+use Rattle.train.specs.Train.{trainVersion, lengthWidth, trainHead, headWith, headOf, longWidth, countedWidth, leastStated, numberWidth, Length, over, stated, bad, lengthOf, Front, ends, holds, stops, bodyOf, frontBy, frontOf}
+use Rattle.train.specs.declared.TrainHead.{TrainHead}
 use Rattle.train.specs.declared.RecordHead.{RecordHead}
 
 -- ---- the length
+
+-- the width that a head tells counts as itself
+pub counted-known : {w : ℕ} → w ≡ lengthWidth → countedWidth w ≡ w
+counted-known e = rw e
+
+-- a width that is counted is no wider than a word
+pub counted-short : (w : ℕ) → countedWidth w ≤ 8
+counted-short w = by-cond (λ (n : ℕ). n ≤ 8) (eqb w longWidth) _ _ (λ _. omega arith) (λ _. omega arith)
 
 module _ (w : ℕ) (l : List ℕ) where
   pub length-none : length l ≡ 0 → over ≡ lengthOf w l
@@ -67,6 +78,10 @@ length-within w (b ∷ l) =
 pub stated-within : (w : ℕ) (l : List ℕ) (n : ℕ) → stated n ≡ lengthOf w l
     → (w ≤ length l) × (leastStated ≤ n) × (1 ≤ length l) × (n ≡ valueOf (take w l))
 stated-within w l n e = subst (Within w l) (sym e) (length-within w l)
+
+-- of bytes, it is a number that the field has room for
+pub stated-below : (w : ℕ) (l : List ℕ) (n : ℕ) → All (λ b. b < 256) l → stated n ≡ lengthOf w l → n < 256 ^ w
+stated-below w l n h e = rw (stated-within w l n e .3) (value-below l 0 w h)
 
 -- ---- number and payload
 
@@ -143,16 +158,29 @@ module _ (l : List ℕ) where
       go [] e = refl
       go (v ∷ l) e = absurd (omega arith)
 
-  head-some : (length l ≡ 0 → ⊥) → headOf l ≡ cond (eqb (getD l 0 0) trainVersion) (given (getD l 0 0)) (refused 21 0)
+  head-some : (length l ≡ 0 → ⊥) → headOf l ≡ headWith (getD l 0 0)
   unfolding headOf
   head-some = go l
     where
-      go : (l : List ℕ) → (length l ≡ 0 → ⊥) → headOf l ≡ cond (eqb (getD l 0 0) trainVersion) (given (getD l 0 0)) (refused 21 0)
+      go : (l : List ℕ) → (length l ≡ 0 → ⊥) → headOf l ≡ headWith (getD l 0 0)
       go [] z = absurd (z refl)
       go (v ∷ l) z = refl
 
-  pub head-is : (length l ≡ 0 → ⊥) → getD l 0 0 ≡ trainVersion → given (getD l 0 0) ≡ headOf l
-  head-is z e = sym (head-some z ∙ rw (eq-eqb (getD l 0 0) trainVersion e))
+  pub head-is : (length l ≡ 0 → ⊥) → getD l 0 0 ≡ trainVersion → given (record { version = getD l 0 0; width = lengthWidth }) ≡ headOf l
+  unfolding headWith
+  head-is z e =
+      ap (λ (v : ℕ). given (record { version = v; width = lengthWidth })) e
+      ∙ sym (head-some z ∙ rw (eq-eqb (getD l 0 0) trainVersion e))
 
   pub head-other : (length l ≡ 0 → ⊥) → (getD l 0 0 ≡ trainVersion → ⊥) → refused 21 0 ≡ headOf l
+  unfolding headWith
   head-other z e = sym (head-some z ∙ rw (ne-eqb (getD l 0 0) trainVersion e))
+
+-- there is no other head
+pub head-known : (l : List ℕ) {h : TrainHead} → given h ≡ headOf l → h ≡ trainHead
+unfolding headOf headWith
+head-known [] e = let z : _≡_ {A = ℕ} 0 1 = cc in absurd (omega arith)
+head-known (v ∷ l) {h} e = by-cond (λ (a : Answer TrainHead). given h ≡ a → h ≡ trainHead) (eqb v trainVersion) _ _
+    (λ t q. cc)
+    (λ t q. let z : _≡_ {A = ℕ} 0 1 = cc in absurd (omega arith))
+    e

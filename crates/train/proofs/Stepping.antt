@@ -1,18 +1,20 @@
 -- A train from record to record, as a program reads it. Assumes nothing.
 --     front-spans    a packet at the front: where its payload lies
 --     records-step   the records of some bytes: the one at the front, and those of the bytes after it
---     stream-over, stream-bad, stream-cut, stream-next    the same by the length field alone, and then by as many bytes as it states
+--     records-over, records-bad, records-cut, records-next    the same by the length field alone, and then by as many bytes as it states
 use mathlib.Core.Path.{_≡_, refl, sym, ap, ap₂, _∙_}
-use Prim.Native.Nat.{ℕ, zero, suc, _+_, _-_, _≤_, _<_}
+use Prim.Native.Nat.{ℕ, _+_, _≤_, _<_}
 use native.Mathlib.Omega.{arith}
 use mathlib.Core.List.{List, [], _∷_}
 use lib.ListN.{length, take, drop, length-take, length-drop, take-append-drop}
-use lib.Seq.{drop-nil, drop-drop, take-take, take-all, take-at, drop-append-le, length-take-le}
+use lib.Seq.{drop-drop, take-take, take-all, take-at, drop-append-le, length-take-le}
 use lib.Dec.{ltb}
 use borrow.Author.Tests.{ltb-true, ltb-false}
+use Rattle.base.specs.Streams.{chained}
+use Rattle.base.specs.BigEndian.{valueOf}
 use Rattle.base.proofs.Tests.{split-on}
-use Rattle.train.specs.Bytes.{valueOf}
-use Rattle.train.specs.Train.{Packet, Train, ended, refusedBy, numberWidth, leastStated, Length, over, stated, bad, lengthOf, Front, ends, holds, stops, bodyOf, frontBy, frontOf, packetIn, followed, recordsFrom, recordsOf}
+use Rattle.base.proofs.Streams.{Some, stream-next}
+use Rattle.train.specs.Train.{Numbered, Records, ended, refusedBy, numberWidth, leastStated, Length, over, stated, bad, lengthOf, Front, ends, holds, stops, bodyOf, frontBy, frontOf, packetIn, recordBy, recordNext, recordsOf}
 use Rattle.train.specs.declared.RecordHead.{RecordHead}
 use Rattle.train.proofs.Reading.{by-value, stated-within, body-found, body-holds, shifted, body-shift}
 
@@ -39,30 +41,22 @@ front-spans w at l h e =
 
 -- ---- from record to record
 
--- the rest matters only where a packet is held
-followed-same : (l : List ℕ) (x : Front) (f g : ℕ → Train)
-    → ((h : RecordHead) → x ≡ holds h → f (h .start + h .length) ≡ g (h .start + h .length)) → followed l x f ≡ followed l x g
-followed-same l ends f g same = refl
-followed-same l (stops k) f g same = refl
-followed-same l (holds h) f g same =
-    ap (λ (t : Train). record { packets = packetIn l h ∷ t .packets; stop = t .stop }) (same h refl)
+-- an item of a stream of records has a byte
+record-some : (w : ℕ) (t : Unit {0}) (l : List ℕ) → Some (recordNext w t l)
+record-some w t l = go (frontOf w 0 l) refl
+  where
+    go : (x : Front) → frontOf w 0 l ≡ x → Some (recordBy l x)
+    go ends e = tt
+    go (stops k) e = tt
+    go (holds h) e = omega (arith, front-spans w 0 l h e)
 
-records-skip : (w : ℕ) (l : List ℕ) (skip : ℕ) → recordsFrom w l skip ≡ recordsOf w (drop skip l)
-unfolding recordsFrom
-records-skip w [] skip = rw (drop-nil skip)
-records-skip w (b ∷ l) zero = refl
-records-skip w (b ∷ l) (suc skip) = records-skip w l skip
+-- the records after what stands at the front
+abbrev pub onward : ℕ → List ℕ → Front → Records
+onward w l x = chained (recordBy l x) (λ n t. recordsOf w (drop n l))
 
-pub records-step : (w : ℕ) (l : List ℕ) → recordsOf w l ≡ followed l (frontOf w 0 l) (λ n. recordsOf w (drop n l))
-unfolding recordsFrom lengthOf
-records-step w [] = refl
-records-step w (b ∷ l) =
-    followed-same (b ∷ l) (frontOf w 0 (b ∷ l)) _ _
-    (λ h e.
-    let s = front-spans w 0 (b ∷ l) h e in
-    let n : ℕ = h .start + h .length in
-    let k : suc (n - 1) ≡ n = omega arith in
-    records-skip w l (n - 1) ∙ ap (λ (m : ℕ). recordsOf w (drop m (b ∷ l))) k)
+pub records-step : (w : ℕ) (l : List ℕ) → recordsOf w l ≡ onward w l (frontOf w 0 l)
+unfolding lengthOf
+records-step w l = stream-next (recordNext w) ended (record-some w) (λ t. refl) l tt
 
 -- ---- by the length field alone, and then by as many bytes as it states
 
@@ -95,36 +89,36 @@ body-first n at l p = split-on (ltb n (length l))
     (λ t. ap (bodyOf n at) (take-all n l (ltb-false n (length l) t)))
 
 -- a packet, and the train after it
-abbrev pub before : Packet → Train → Train
-before p t = record { packets = p ∷ t .packets; stop = t .stop }
+abbrev pub before : Numbered → Records → Records
+before p t = record { items = p ∷ t .items; stop = t .stop }
 
 module _ (w : ℕ) (l : List ℕ) (some : 1 ≤ w) where
-  stream : (x : Length) → lengthOf w (take w l) ≡ x → recordsOf w l ≡ followed l (frontBy w 0 l x) (λ n. recordsOf w (drop n l))
-  stream x e =
+  records-by : (x : Length) → lengthOf w (take w l) ≡ x → recordsOf w l ≡ onward w l (frontBy w 0 l x)
+  records-by x e =
       records-step w l
-      ∙ ap (λ (y : Length). followed l (frontBy w 0 l y) (λ n. recordsOf w (drop n l))) (sym (length-first w l some) ∙ e)
+      ∙ ap (λ (y : Length). onward w l (frontBy w 0 l y)) (sym (length-first w l some) ∙ e)
 
-  pub stream-over : lengthOf w (take w l) ≡ over → recordsOf w l ≡ record { packets = []; stop = ended }
-  stream-over e = stream over e
+  pub records-over : lengthOf w (take w l) ≡ over → recordsOf w l ≡ record { items = []; stop = ended }
+  records-over e = records-by over e
 
-  pub stream-bad : (k : ℕ) → lengthOf w (take w l) ≡ bad k → recordsOf w l ≡ record { packets = []; stop = refusedBy k }
-  stream-bad k e = stream (bad k) e
+  pub records-bad : (k : ℕ) → lengthOf w (take w l) ≡ bad k → recordsOf w l ≡ record { items = []; stop = refusedBy k }
+  records-bad k e = records-by (bad k) e
 
   module _ (n : ℕ) (e : lengthOf w (take w l) ≡ stated n) where
     -- the front, by the bytes that were read after the length
-    by-body : (x : Front) → bodyOf n 0 (take n (drop w l)) ≡ x → recordsOf w l ≡ followed l (shifted (0 + w) x) (λ m. recordsOf w (drop m l))
+    by-body : (x : Front) → bodyOf n 0 (take n (drop w l)) ≡ x → recordsOf w l ≡ onward w l (shifted (0 + w) x)
     by-body x f =
         let s = stated-within w l n (sym e ∙ length-first w l some) in
-        stream (stated n) e
-        ∙ ap (λ (y : Front). followed l y (λ m. recordsOf w (drop m l)))
+        records-by (stated n) e
+        ∙ ap (onward w l)
         (sym (ap (shifted (0 + w)) (sym f ∙ body-first n 0 (drop w l) (s .1)) ∙ body-shift n (0 + w) (drop w l)))
 
-    pub stream-cut : (k : ℕ) → bodyOf n 0 (take n (drop w l)) ≡ stops k → recordsOf w l ≡ record { packets = []; stop = refusedBy k }
-    stream-cut k f = by-body (stops k) f
+    pub records-cut : (k : ℕ) → bodyOf n 0 (take n (drop w l)) ≡ stops k → recordsOf w l ≡ record { items = []; stop = refusedBy k }
+    records-cut k f = by-body (stops k) f
 
-    pub stream-next : (h : RecordHead) → bodyOf n 0 (take n (drop w l)) ≡ holds h
+    pub records-next : (h : RecordHead) → bodyOf n 0 (take n (drop w l)) ≡ holds h
         → recordsOf w l ≡ before (packetIn (take n (drop w l)) h) (recordsOf w (drop (w + n) l))
-    stream-next h f =
+    records-next h f =
         let s = stated-within w l n (sym e ∙ length-first w l some) in
         let b = body-holds n 0 (take n (drop w l)) h (sym f) in
         let m : h .start + h .length ≡ n = omega arith in
@@ -136,4 +130,4 @@ module _ (w : ℕ) (l : List ℕ) (some : 1 ≤ w) where
         ∙ part-taken (drop w l) (h .start) (h .length) k
         ∙ ap (take (h .length)) (drop-drop (h .start) w l ∙ ap (λ (i : ℕ). drop i l) c) in
         by-body (holds h) f
-        ∙ ap₂ (λ (p : List ℕ) (t : Train). before (record { number = h .number; payload = p }) t) (sym d) (ap (λ (i : ℕ). recordsOf w (drop i l)) a)
+        ∙ ap₂ (λ (p : List ℕ) (t : Records). before (record { number = h .number; payload = p }) t) (sym d) (ap (λ (i : ℕ). recordsOf w (drop i l)) a)

@@ -1,6 +1,6 @@
 -- A written train reads back, over the width of the length field. Assumes nothing.
 --     records-then   written records, and then anything: reading gives them, and goes on with the rest
---     written-read   a train reads back as the same packets
+--     head-taken, written-read   a train reads back as the same packets
 use mathlib.Core.Path.{_≡_, refl, sym, ap, ap₂, _∙_}
 use Prim.Native.Nat.{ℕ, zero, suc, _+_, _-_, _≤_}
 use native.Mathlib.Omega.{arith}
@@ -8,28 +8,31 @@ use mathlib.Core.List.{List, [], _∷_, _++_, append-nil, append-assoc, flatMap}
 use lib.ListN.{length, take, drop, length-append}
 use lib.Seq.{take-at, drop-at}
 use Rattle.base.specs.Answers.{given}
-use Rattle.train.specs.Bytes.{bigEndian, valueOf}
-use Rattle.train.specs.Train.{Packet, ended, trainVersion, numberWidth, stated, lengthOf, Front, holds, bodyOf, frontBy, frontOf, headBytes, recordBytes, packetIn, followed, recordsFrom, recordsOf, headOf, trainOf, trainIn}
-use Rattle.train.specs.Laws.{Fits, AllFit}
+use Rattle.base.specs.BigEndian.{bigEndian, valueOf}
+use Rattle.base.specs.Streams.{streamFrom}
+use Rattle.base.proofs.BigEndian.{big-length, value-back}
+use Rattle.train.specs.Train.{Numbered, ended, trainHead, numberWidth, stated, lengthOf, holds, bodyOf, frontBy, frontOf, recordFields, recordBytes, packetIn, recordsOf, headWith, headOf, trainOf, trainBy, trainIn}
+use Rattle.train.specs.Laws.{Known, Fits, AllFit}
+use Rattle.train.specs.declared.TrainHead.{TrainHead}
 use Rattle.train.specs.declared.RecordHead.{RecordHead}
-use Rattle.train.proofs.Numbers.{big-length, value-back}
+use Rattle.train.proofs.Fields.{fields-length}
 use Rattle.train.proofs.Reading.{length-stated, body-found}
-use Rattle.train.proofs.Stepping.{records-step, before}
+use Rattle.train.proofs.Stepping.{onward, records-step, before}
 
 -- ---- what is written reads back
 
-width-some : (w : ℕ) (p : Packet) → Fits w p → 1 ≤ w
+width-some : (w : ℕ) (p : Numbered) → Fits w p → 1 ≤ w
 width-some zero p f = absurd (omega (arith, f .short))
 width-some (suc w) p f = omega arith
 
 -- the length that a record of these packets states
-abbrev statedBy : Packet → ℕ
+abbrev statedBy : Numbered → ℕ
 statedBy p = numberWidth + length (p .payload)
 
-abbrev writtenHead : ℕ → Packet → RecordHead
+abbrev writtenHead : ℕ → Numbered → RecordHead
 writtenHead w p = record { number = p .number; start = 0 + w + numberWidth; length = statedBy p - numberWidth }
 
-module _ (w : ℕ) (p : Packet) (rest : List ℕ) (f : Fits w p) where
+module _ (w : ℕ) (p : Numbered) (rest : List ℕ) (f : Fits w p) where
   -- number and payload, and all the bytes
   after : List ℕ
   after = bigEndian numberWidth (p .number) ++ (p .payload ++ rest)
@@ -68,33 +71,31 @@ module _ (w : ℕ) (p : Packet) (rest : List ℕ) (f : Fits w p) where
       ∙ ap (bodyOf (statedBy p) (0 + w)) (drop-at (bigEndian w (statedBy p)) after w (big-length w (statedBy p)))
       ∙ body-written
 
-  head-size : length (headBytes w (statedBy p) (p .number)) ≡ 0 + w + numberWidth
-  head-size =
-      length-append (bigEndian w (statedBy p)) (bigEndian numberWidth (p .number))
-      ∙ omega (arith, big-length w (statedBy p), big-length numberWidth (p .number))
+  head-size : length (recordFields w (statedBy p) (p .number)) ≡ 0 + w + numberWidth
+  head-size = omega (arith, fields-length w (statedBy p) (p .number))
 
   packet-written : packetIn (recordBytes w p ++ rest) (writtenHead w p) ≡ p
   packet-written =
       let n : statedBy p - numberWidth ≡ length (p .payload) = omega arith in
       ap (λ (l : List ℕ). record { number = p .number; payload = l })
-      (ap (λ (l : List ℕ). take (statedBy p - numberWidth) (drop (0 + w + numberWidth) l)) (append-assoc (headBytes w (statedBy p) (p .number)) (p .payload) rest)
-      ∙ ap (take (statedBy p - numberWidth)) (drop-at (headBytes w (statedBy p) (p .number)) (p .payload ++ rest) (0 + w + numberWidth) head-size)
+      (ap (λ (l : List ℕ). take (statedBy p - numberWidth) (drop (0 + w + numberWidth) l)) (append-assoc (recordFields w (statedBy p) (p .number)) (p .payload) rest)
+      ∙ ap (take (statedBy p - numberWidth)) (drop-at (recordFields w (statedBy p) (p .number)) (p .payload ++ rest) (0 + w + numberWidth) head-size)
       ∙ take-at (p .payload) rest (statedBy p - numberWidth) (sym n))
 
   rest-written : drop (0 + w + numberWidth + (statedBy p - numberWidth)) (recordBytes w p ++ rest) ≡ rest
   rest-written =
       drop-at (recordBytes w p) rest (0 + w + numberWidth + (statedBy p - numberWidth))
-      (length-append (headBytes w (statedBy p) (p .number)) (p .payload) ∙ omega (arith, head-size))
+      (length-append (recordFields w (statedBy p) (p .number)) (p .payload) ∙ omega (arith, head-size))
 
   pub record-then : recordsOf w (recordBytes w p ++ rest) ≡ before p (recordsOf w rest)
   record-then =
       records-step w (recordBytes w p ++ rest)
-      ∙ ap (λ (x : Front). followed (recordBytes w p ++ rest) x (λ n. recordsOf w (drop n (recordBytes w p ++ rest)))) front-written
+      ∙ ap (onward w (recordBytes w p ++ rest)) front-written
       ∙ ap₂ before packet-written (ap (recordsOf w) rest-written)
 
-pub records-then : (w : ℕ) (ps : List Packet) (rest : List ℕ) → AllFit w ps
+pub records-then : (w : ℕ) (ps : List Numbered) (rest : List ℕ) → AllFit w ps
     → recordsOf w (flatMap (recordBytes w) ps ++ rest)
-    ≡ record { packets = ps ++ recordsOf w rest .packets; stop = recordsOf w rest .stop }
+    ≡ record { items = ps ++ recordsOf w rest .items; stop = recordsOf w rest .stop }
 unfolding flatMap
 records-then w [] rest f = refl
 records-then w (p ∷ ps) rest f =
@@ -102,10 +103,18 @@ records-then w (p ∷ ps) rest f =
     ∙ record-then w p (flatMap (recordBytes w) ps ++ rest) (f .0)
     ∙ ap (before p) (records-then w ps rest (f .1))
 
-pub written-read : (w : ℕ) (ps : List Packet) → AllFit w ps → trainIn w (trainOf w trainVersion ps) ≡ given (record { packets = ps; stop = ended })
-unfolding headOf recordsFrom
-written-read w ps f =
-    ap given
+-- the head that is written is taken
+pub head-taken : Known trainHead
+unfolding headWith
+head-taken = refl
+
+-- in a file of any head that the reader takes
+pub written-read : (h : TrainHead) (ps : List Numbered) → Known h → AllFit (h .width) ps → trainIn (trainOf h ps) ≡ given (record { items = ps; stop = ended })
+unfolding headOf streamFrom
+written-read h ps known f =
+    let w = h .width in
+    ap (trainBy (flatMap (recordBytes w) ps)) known
+    ∙ ap given
     (ap (recordsOf w) (sym (append-nil (flatMap (recordBytes w) ps)))
     ∙ records-then w ps [] f
-    ∙ ap (λ (qs : List Packet). record { packets = qs; stop = ended }) (append-nil ps))
+    ∙ ap (λ (qs : List Numbered). record { items = qs; stop = ended }) (append-nil ps))

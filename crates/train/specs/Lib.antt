@@ -1,4 +1,3 @@
-pub mod Bytes
 pub mod Train
 pub mod Paper
 pub mod Laws

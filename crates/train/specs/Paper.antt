@@ -1,8 +1,8 @@
 -- The number and values that the rules have for each answer of the code.
-use Prim.Native.Nat.{ℕ}
 use Rattle.base.specs.Refusals.{numberOf}
 use Rattle.base.specs.Answers.{Answer, given, refused}
 use Rattle.train.specs.Train as train
+use Rattle.train.specs.declared.TrainHead.{TrainHead}
 use Rattle.train.specs.declared.HeadRead.{HeadRead}
 use Rattle.train.specs.declared.HeadRead.the-variants as head
 use Rattle.train.specs.declared.LengthRead.{LengthRead}
@@ -10,8 +10,8 @@ use Rattle.train.specs.declared.LengthRead.the-variants as length
 use Rattle.train.specs.declared.RecordRead.{RecordRead}
 use Rattle.train.specs.declared.RecordRead.the-variants as found
 
-abbrev pub paperHead : HeadRead → Answer ℕ
-paperHead (head.Train h) = given (h .version)
+abbrev pub paperHead : HeadRead → Answer TrainHead
+paperHead (head.Train h) = given h
 paperHead (head.Refused r) = refused (numberOf r) 0
 
 abbrev pub paperLength : LengthRead → train.Length

@@ -1,19 +1,44 @@
 -- The train file, over the width in bytes of its length fields (T1 to T3, R21 to R23, C4, L11).
-use Prim.Native.Nat.{ℕ, zero, suc, _+_, _-_}
+use Prim.Native.Nat.{ℕ, _+_, _-_}
 use mathlib.Core.List.{List, [], _∷_, _++_, flatMap}
 use mathlib.Core.Bool.{cond}
 use lib.ListN.{length, take, drop}
 use lib.Dec.{ltb, eqb}
 use Rattle.base.specs.Answers.{Answer, given, refused}
-use Rattle.train.specs.Bytes.{bigEndian, valueOf}
+use Rattle.base.specs.BigEndian.{bigEndian, valueOf}
+use Rattle.base.specs.Streams.{Next, item, halt, Stream, streamOf}
+use Rattle.train.specs.declared.TrainHead.{TrainHead}
 use Rattle.train.specs.declared.RecordHead.{RecordHead}
 
--- the version byte, and the width of its length fields
+-- ---- the head
+
+-- the version byte, and the width of the length fields of such a train
 abbrev pub trainVersion : ℕ
 trainVersion = 1
 
 abbrev pub lengthWidth : ℕ
 lengthWidth = 2
+
+abbrev pub trainHead : TrainHead
+trainHead = record { version = trainVersion; width = lengthWidth }
+
+-- what a version byte tells, or R21
+unfoldable pub headWith : ℕ → Answer TrainHead
+headWith v = cond (eqb v trainVersion) (given trainHead) (refused 21 0)
+
+-- the head of a file
+unfoldable pub headOf : List ℕ → Answer TrainHead
+headOf [] = refused 21 0
+headOf (v ∷ l) = headWith v
+
+-- the width that a number given from outside counts as: 4, and else 2
+abbrev pub longWidth : ℕ
+longWidth = 4
+
+abbrev pub countedWidth : ℕ → ℕ
+countedWidth w = cond (eqb w longWidth) longWidth lengthWidth
+
+-- ---- written
 
 -- the bytes of a number, and the least that a record may state (L11)
 abbrev pub numberWidth : ℕ
@@ -22,22 +47,20 @@ numberWidth = 2
 abbrev pub leastStated : ℕ
 leastStated = 3
 
--- a packet with its number
-pub record Packet : Type 0 where
+-- a payload with its number
+pub record Numbered : Type 0 where
   pub number : ℕ
   pub payload : List ℕ
 
--- ---- written
-
 -- what stands before a payload: the length of number and payload, and the number
-abbrev pub headBytes : ℕ → ℕ → ℕ → List ℕ
-headBytes w stated number = bigEndian w stated ++ bigEndian numberWidth number
+abbrev pub recordFields : ℕ → ℕ → ℕ → List ℕ
+recordFields w stated number = bigEndian w stated ++ bigEndian numberWidth number
 
-abbrev pub recordBytes : ℕ → Packet → List ℕ
-recordBytes w p = headBytes w (numberWidth + length (p .payload)) (p .number) ++ p .payload
+abbrev pub recordBytes : ℕ → Numbered → List ℕ
+recordBytes w p = recordFields w (numberWidth + length (p .payload)) (p .number) ++ p .payload
 
-abbrev pub trainOf : ℕ → ℕ → List Packet → List ℕ
-trainOf w version packets = version ∷ flatMap (recordBytes w) packets
+abbrev pub trainOf : TrainHead → List Numbered → List ℕ
+trainOf h packets = h .version ∷ flatMap (recordBytes (h .width)) packets
 
 -- ---- one record, at the front of some bytes
 
@@ -78,49 +101,39 @@ frontOf w at l = frontBy w at l (lengthOf w l)
 
 -- ---- all records, up to the end or to the first that is bad
 
-pub data Stop : Type 0 where
-  ended : Stop
-  refusedBy : ℕ → Stop
+pub data TrainEnd : Type 0 where
+  ended : TrainEnd
+  refusedBy : ℕ → TrainEnd
 
-pub record Train : Type 0 where
-  pub packets : List Packet
-  pub stop : Stop
+abbrev pub Records : Type 0
+Records = Stream Numbered TrainEnd
 
 -- the packet that a head speaks of
-abbrev pub packetIn : List ℕ → RecordHead → Packet
+abbrev pub packetIn : List ℕ → RecordHead → Numbered
 packetIn l h = record { number = h .number; payload = take (h .length) (drop (h .start) l) }
 
--- what stands at the front of these bytes, and then the rest, which begins so many bytes further on
-abbrev pub followed : List ℕ → Front → (ℕ → Train) → Train
-followed l ends rest = record { packets = []; stop = ended }
-followed l (stops k) rest = record { packets = []; stop = refusedBy k }
-followed l (holds h) rest =
-    record { packets = packetIn l h ∷ rest (h .start + h .length) .packets; stop = rest (h .start + h .length) .stop }
+-- what stands at the front of these bytes, as an item of a stream: nothing is known before it
+abbrev pub recordBy : List ℕ → Front → Next Numbered TrainEnd (Unit {0})
+recordBy l ends = halt ended
+recordBy l (stops k) = halt (refusedBy k)
+recordBy l (holds h) = item (packetIn l h) (h .start + h .length) tt
 
--- the records of some bytes, the first `skip` of which belong to the record before
-unfoldable pub recordsFrom : ℕ → List ℕ → ℕ → Train
-recordsFrom w [] skip = record { packets = []; stop = ended }
-recordsFrom w (b ∷ l) (suc skip) = recordsFrom w l skip
-recordsFrom w (b ∷ l) zero = followed (b ∷ l) (frontOf w 0 (b ∷ l)) (λ n. recordsFrom w l (n - 1))
+abbrev pub recordNext : ℕ → Unit {0} → List ℕ → Next Numbered TrainEnd (Unit {0})
+recordNext w t l = recordBy l (frontOf w 0 l)
 
-abbrev pub recordsOf : ℕ → List ℕ → Train
-recordsOf w l = recordsFrom w l 0
+abbrev pub recordsOf : ℕ → List ℕ → Records
+recordsOf w l = streamOf (recordNext w) ended l tt
 
--- ---- a file
+-- ---- a file: its records, by the width that its head tells, or R21
 
--- its version, or R21
-unfoldable pub headOf : List ℕ → Answer ℕ
-headOf [] = refused 21 0
-headOf (v ∷ l) = cond (eqb v trainVersion) (given v) (refused 21 0)
+abbrev pub trainBy : List ℕ → Answer TrainHead → Answer Records
+trainBy l (given h) = given (recordsOf (h .width) l)
+trainBy l (refused n at) = refused n at
 
-abbrev pub trainBy : ℕ → List ℕ → Answer ℕ → Answer Train
-trainBy w l (given v) = given (recordsOf w l)
-trainBy w l (refused n at) = refused n at
-
-abbrev pub trainIn : ℕ → List ℕ → Answer Train
-trainIn w file = trainBy w (drop 1 file) (headOf file)
+abbrev pub trainIn : List ℕ → Answer Records
+trainIn file = trainBy (drop 1 file) (headOf file)
 
 -- the packets that stand
-abbrev pub standing : Answer Train → List Packet
-standing (given t) = t .packets
+abbrev pub standing : Answer Records → List Numbered
+standing (given t) = t .items
 standing (refused n at) = []

@@ -1,3 +1,4 @@
 pub mod Text
 pub mod Orders
 pub mod Loop
+pub mod Stores

@@ -24,11 +24,15 @@ decimalIn (suc most) n = cond (ltb n 10) ((48 + n) ∷ []) (decimalIn most (n / 
 abbrev pub decimal : ℕ → List ℕ
 decimal n = decimalIn mostDigits n
 
+-- some words, and then a number
+abbrev pub labelled : List ℕ → ℕ → List ℕ
+labelled words n = words ++ decimal n
+
 abbrev pub subjectText : Subject → List ℕ
 subjectText subject.Input = ascii "input"
 subjectText subject.Train = ascii "train"
-subjectText (subject.Unit n) = ascii "unit " ++ decimal n
-subjectText (subject.Record n) = ascii "record " ++ decimal n
+subjectText (subject.Unit n) = labelled (ascii "unit ") n
+subjectText (subject.Record n) = labelled (ascii "record ") n
 
 -- a refusal has its words behind its number, in brackets
 abbrev pub refusalText : ℕ → List ℕ

@@ -5,7 +5,7 @@ ghost use mathlib.Core.Bool.{true, false};
 ghost use lib.ListN.{length};
 ghost use Rattle.base.specs.Lists.{front, Put};
 ghost use Rattle.base.specs.Words.{wordsMost};
-ghost use Rattle.turns.specs.Text.{lineBytes, mostDigits, decimal, subjectText, refusalText, wordText, lineText};
+ghost use Rattle.turns.specs.Text.{lineBytes, mostDigits, decimal, labelled, subjectText, refusalText, wordText, lineText};
 ghost use Rattle.turns.specs.Orders.{nextCount};
 
 // What a program does before its next step, in this order: so many bytes at the front of its output go to standard output, so many
@@ -42,6 +42,13 @@ pub enum Word {
 
 // The bytes of a program's line: more than any line has.
 pub const LINE_BYTES: usize = 2048;
+
+// What the programs have room for: the bytes of a unit, the records of a list, the bytes of the output (L12 to L14).
+pub const UNIT_STORE: usize = 32768;
+
+pub const LIST_RECORDS: usize = 512;
+
+pub const OUTPUT_BYTES: usize = 65536;
 
 // The most digits of a number of 64 bits.
 const MOST_DIGITS: usize = 20;
@@ -100,6 +107,17 @@ pub fn put_decimal(n: u64, line: &mut [u8], at: usize) -> usize
     base::put_text(&text[..digits], line, at)
 }
 
+// Some words and then a number at the cursor `at`, and the cursor after them.
+// Helper: `line` must have space for the words and 20 digits.
+pub fn put_labelled(words: &[u8], n: u64, line: &mut [u8], at: usize) -> usize
+    requires { ⌜ at + length (now words) + mostDigits ≤ length (now line) ⌝ }
+    ensures { λ r. ⌜ Put (now (line .entry)) (now (line .exit)) at r (labelled (now (words .entry)) n)
+        × (r ≤ at + length (now (words .entry)) + mostDigits) ⌝ }
+{
+    let behind = base::put_text(words, line, at);
+    put_decimal(n, line, behind)
+}
+
 // What the line is of, at its front.
 fn put_subject(subject: Subject, line: &mut [u8]) -> usize
     requires { ⌜ length (now line) ≡ lineBytes ⌝ }
@@ -108,14 +126,8 @@ fn put_subject(subject: Subject, line: &mut [u8]) -> usize
     match subject {
         Subject::Input => base::put_text(b"input", line, 0),
         Subject::Train => base::put_text(b"train", line, 0),
-        Subject::Unit(n) => {
-            let at = base::put_text(b"unit ", line, 0);
-            put_decimal(n, line, at)
-        }
-        Subject::Record(n) => {
-            let at = base::put_text(b"record ", line, 0);
-            put_decimal(n, line, at)
-        }
+        Subject::Unit(n) => put_labelled(b"unit ", n, line, 0),
+        Subject::Record(n) => put_labelled(b"record ", n, line, 0),
     }
 }
 

@@ -6,11 +6,12 @@ use Rattle.base.specs.Words.{ascii, words, wordsOf}
 use Rattle.leb128.specs.Field.{fieldIn, encodeIn}
 use Rattle.obu.specs.Front.{frontOf, headed}
 use Rattle.obu.specs.Wire.{wholeOf, wire}
-use Rattle.element.specs.Elements.{elementAt, untilEnd, exactly, counting, elementsOf, payloadElements}
-use Rattle.train.specs.Bytes.{valueAfter}
-use Rattle.train.specs.Train.{lengthOf, bodyOf, recordsFrom, headOf}
+use Rattle.element.specs.Elements.{elementAt, exactly, counting, elementsOf, payloadElements}
+use Rattle.base.specs.BigEndian.{valueAfter}
+use Rattle.base.specs.Streams.{streamFrom}
+use Rattle.train.specs.Train.{headWith, headOf, lengthOf, bodyOf}
 use Rattle.handing.specs.Handing.{wires}
-use Rattle.receiver.specs.Joining.{isAhead, isInStep, joined, lost, finished, left, handed, keptOpen, next, out}
+use Rattle.receiver.specs.Joining.{isAhead, isInStep, follows, withFragment, lost, finished, left, handed, keptOpen, next, out}
 use Rattle.receiver.specs.Call.{taken}
 use Rattle.turns.specs.Text.{decimalIn, lineText}
 use Rattle.turns.specs.declared.Subject.the-variants as subject
@@ -44,7 +45,7 @@ unpacked :
     ∷ []
     ∷ []
     ∷ []
-unfolding trains headOf recordsFrom lengthOf bodyOf valueAfter unpackedFrom taken isAhead isInStep joined finished left handed keptOpen next out wires wire wholeOf frontOf headed fieldIn encodeIn elementAt untilEnd exactly counting elementsOf payloadElements
+unfolding trains headWith headOf streamFrom lengthOf bodyOf valueAfter unpackedFrom taken isAhead isInStep follows withFragment finished left handed keptOpen next out wires wire wholeOf frontOf headed fieldIn encodeIn elementAt exactly counting elementsOf payloadElements
 unpacked = refl
 
 -- what is said of them: an element lost with the packet before it; a packet that comes late too; N with Z; a record that is cut, and one
@@ -61,7 +62,7 @@ said :
     ∷ lineText subject.Train (word.Refused 21)
     ∷ lineText subject.Train (word.Refused 21)
     ∷ []
-unfolding trains headOf recordsFrom lengthOf bodyOf valueAfter lossesFrom saidFrom taken isAhead isInStep joined lost finished left handed keptOpen next out wires wire wholeOf frontOf headed fieldIn encodeIn elementAt untilEnd exactly counting elementsOf payloadElements lineText decimalIn wordsOf words
+unfolding trains headWith headOf streamFrom lengthOf bodyOf valueAfter lossesFrom saidFrom taken isAhead isInStep follows withFragment lost finished left handed keptOpen next out wires wire wholeOf frontOf headed fieldIn encodeIn elementAt exactly counting elementsOf payloadElements lineText decimalIn wordsOf words
 said = refl
 
 line : lossesLine (record { packets = 1; fragments = 20; elements = 3 }) ≡ ascii "lost: 1 packets passed over, 20 open fragments, 3 leading elements\n"

@@ -10,20 +10,21 @@ use lib.Seq.{drop-drop}
 use Rattle.base.specs.Answers.{Answer, given, refused}
 use Rattle.base.specs.Lists.{front}
 use Rattle.base.proofs.Tests.{by-cond, split-on}
-use Rattle.train.specs.Train.{lengthWidth, Packet, Train, Length, over, stated, bad, lengthOf, Front, ends, holds, stops, bodyOf, packetIn, recordsOf, headOf, trainBy, standing}
-use Rattle.train.proofs.Reading.{stated-within}
-use Rattle.train.proofs.Stepping.{stream-over, stream-bad, stream-cut, stream-next}
+use Rattle.train.specs.Train.{Numbered, Records, Length, over, stated, bad, lengthOf, Front, ends, holds, stops, bodyOf, packetIn, recordsOf, headOf, trainBy, standing}
+use Rattle.train.specs.declared.TrainHead.{TrainHead}
+use Rattle.train.proofs.Reading.{stated-within, head-known}
+use Rattle.train.proofs.Stepping.{records-over, records-bad, records-cut, records-next}
 use Rattle.handing.proofs.Lists.{front-length}
 use Rattle.receiver.specs.Joining.{Held, fresh}
-use Rattle.receiver.specs.Call.{Taken, taken, stateOf, outcome}
-use Rattle.receiver.proofs.Laws.{taken-fits, Holding, holding-fresh, outcome-holding, holding-next}
+use Rattle.receiver.specs.Call.{Taken, taken, stateOf, outcome, after}
+use Rattle.receiver.proofs.Laws.{taken-fits, Holding, holding-fresh, inputsBy, outcome-holding, holding-next}
 use Rattle.turns.specs.Text.{lineText}
 use Rattle.turns.specs.Orders as orders
 use Rattle.turns.specs.Orders.{nextCount, Told, says}
 use Rattle.turns.specs.Loop.{Output, nothing, also, loop}
 use Rattle.turns.specs.declared.Subject.{Subject}
 use Rattle.turns.specs.declared.Word.{Word}
-use Rattle.unpacking.specs.Unpack.{outputBytes, fragmentStore, turn, heldAfter, writtenFor, unpackedFrom, unpackOf, noLosses, withOpen, lossesAfter, lossesFrom, isNone, lossesLine, saidFor, saidFrom, saidOf, saidBy, unpackSays, stepBy, stepAt, stepOf, storeBy}
+use Rattle.unpacking.specs.Unpack.{outputBytes, fragmentStore, turn, heldAfter, writtenFor, unpackedFrom, unpackOf, noLosses, withOpen, lossesAfter, lossesFrom, isNone, lossesLine, saidFor, saidFrom, saidOf, saidBy, unpackSays, incoming, stepBy, stepAt, stepOf}
 use Rattle.unpacking.specs.Steps.{awaits, startsWith, lossesTold, versionTold, lengthTold, bodyTold}
 use Rattle.unpacking.specs.Run.{Stores, unpack, runOf}
 use Rattle.unpacking.specs.declared.losses.Losses.{Losses}
@@ -61,21 +62,9 @@ run-stops (suc n) h p x w s l =
 
 -- ---- from a record on
 
--- record k is next, h is held, and c was lost
-abbrev before : ℕ → Held → Losses → Place
-before k h c = record { wait = wait.Length; count = k; state = stateOf h; losses = c }
-
--- so many bytes of it are read
-abbrev within : ℕ → Held → Losses → ℕ → Place
-within k h c m = awaits (before k h c) (wait.Body m)
-
--- bytes are written or a text is said, and its length is read
-abbrev onward : ℕ → Held → Losses → List ℕ → List ℕ → Told Place
-onward k h c w y = record { place = before k h c; more = true; written = w; said = y; read = lengthWidth }
-
 -- what is to come
-abbrev outputFor : ℕ → Held → Losses → Train → Output
-outputFor k h c t = record { written = unpackedFrom h (t .packets); said = saidFrom k h (t .packets) (t .stop) ++ saidOf (lossesFrom c h (t .packets)) }
+abbrev outputFor : ℕ → Held → Losses → Records → Output
+outputFor k h c t = record { written = unpackedFrom h (t .items); said = saidFrom k h (t .items) (t .stop) ++ saidOf (lossesFrom c h (t .items)) }
 
 -- store and output of the length that they have throughout, and what is held
 record Ready (h : Held) (s : Stores) : Type 0 where
@@ -83,108 +72,120 @@ record Ready (h : Held) (s : Stores) : Type 0 where
   pub store-is : length (s .store) ≡ fragmentStore
   pub out-is : length (s .out) ≡ outputBytes
 
--- a run of n turns does it, from any record on
-abbrev Comes : ℕ → List ℕ → Type 0
-Comes n l =
-    (k : ℕ) (h : Held) (c : Losses) (s : Stores) → Ready h s → (w y : List ℕ)
-    → run n (onward k h c w y) s l ≡ also w y (outputFor k h c (recordsOf lengthWidth l))
-
--- ---- one packet
-
-module _ (n k m : ℕ) (h : Held) (c : Losses) (s : Stores) (r : Ready h s) (p : Packet) (l : List ℕ) (again : Comes n l) where
-  turned : outcome (stateOf h) (p .number) (p .payload) (s .store) (s .out) ≡ turn h p
-  turned =
-      outcome-holding h (p .number) (p .payload) (s .store) (s .out) (r .holding)
-      ∙ ap₂ (λ (a b : ℕ). taken a b h (p .number) (p .payload)) (r .store-is) (r .out-is)
-
-  -- what becomes of it, where the receiver says so
-  abbrev RunBy : Answer Taken → Output
-  RunBy a =
-      run n (bodyTold (within k h c m) (stepBy a))
-      (record { store = storeBy (stepBy a) (s .store); out = front (bodyTold (within k h c m) (stepBy a) .written) (s .out) }) l
-
-  by-turn : (a : Answer Taken) → turn h p ≡ a
-      → RunBy a ≡ also (writtenFor a) (saidFor k a) (outputFor (nextCount k) (heldAfter h a) (lossesAfter c a) (recordsOf lengthWidth l))
-  by-turn (refused j at) e = again (nextCount k) h (lossesAfter c (refused j at)) s r [] (saidFor k (refused j at))
-  by-turn (given t) e =
-      let same = outcome-holding h (p .number) (p .payload) (s .store) (s .out) (r .holding) in
-      let f = taken-fits (length (s .store)) (length (s .out)) h (p .number) (p .payload) t (sym same ∙ turned ∙ e) in
-      let g = holding-next h (p .number) (p .payload) (s .store) (s .out) (r .holding) t (sym same ∙ turned ∙ e) in
-      again (nextCount k) (t .held) (lossesAfter c (given t)) (record { store = storeBy (stepBy (given t)) (s .store); out = front (t .bytes) (s .out) })
-      (record { holding = g .0; store-is = g .1 ∙ r .store-is; out-is = front-length (t .bytes) (s .out) (f .2) ∙ r .out-is }) (t .bytes) []
-
-  packet-run : (t : Train) → t ≡ record { packets = p ∷ recordsOf lengthWidth l .packets; stop = recordsOf lengthWidth l .stop }
-      → RunBy (outcome (stateOf h) (p .number) (p .payload) (s .store) (s .out)) ≡ outputFor k h c t
-  unfolding unpackedFrom saidFrom lossesFrom
-  packet-run t e =
-      ap RunBy turned ∙ by-turn (turn h p) refl
-      ∙ ap (λ (said : List ℕ). record { written = writtenFor (turn h p) ++ unpackedFrom (heldAfter h (turn h p)) (recordsOf lengthWidth l .packets); said = said })
-      (sym (append-assoc (saidFor k (turn h p)) _ _))
-      ∙ sym (ap (outputFor k h c) e)
-
--- ---- one record
-
 body-there : (n at : ℕ) (l : List ℕ) → bodyOf n at l ≡ ends → ⊥
 unfolding bodyOf
 body-there n at l = by-cond (λ (f : Front). f ≡ ends → ⊥) (ltb (length l) n) _ _
     (λ t e. let z : _≡_ {A = ℕ} 0 1 = cc in absurd (omega arith))
     (λ t e. let z : _≡_ {A = ℕ} 0 1 = cc in absurd (omega arith))
 
-module _ (k : ℕ) (h : Held) (c : Losses) (s : Stores) (r : Ready h s) (l : List ℕ) where
-  abbrev Expected : Output
-  Expected = outputFor k h c (recordsOf lengthWidth l)
+-- where length fields of this width are read: at least as many bytes as turns that a record takes
+module _ (width : ℕ) (wide : 2 ≤ width) where
+  -- record k is next, h is held, and c was lost
+  abbrev before : ℕ → Held → Losses → Place
+  before k h c = record { wait = wait.Length; count = k; width = width; state = stateOf h; losses = c }
 
-  module _ (n m : ℕ) (e : lengthOf lengthWidth (take lengthWidth l) ≡ stated m) (some : 2 ≤ n) (again : Comes n (drop m (drop lengthWidth l))) where
-    abbrev body : List ℕ
-    body = take m (drop lengthWidth l)
+  -- so many bytes of it are read
+  abbrev within : ℕ → Held → Losses → ℕ → Place
+  within k h c m = awaits (before k h c) (wait.Body m)
 
-    by-body : (f : Front) → bodyOf m 0 body ≡ f
-        → (let t = bodyTold (within k h c m) (stepAt (stateOf h) body (s .store) (s .out) f) in
-        run n t (record { store = storeBy (stepAt (stateOf h) body (s .store) (s .out) f) (s .store); out = front (t .written) (s .out) }) (drop m (drop lengthWidth l)))
-        ≡ Expected
+  -- bytes are written or a text is said, and its length is read
+  abbrev onward : ℕ → Held → Losses → List ℕ → List ℕ → Told Place
+  onward k h c w y = record { place = before k h c; more = true; written = w; said = y; read = width }
+
+  -- a run of n turns does it, from any record on
+  abbrev Comes : ℕ → List ℕ → Type 0
+  Comes n l =
+      (k : ℕ) (h : Held) (c : Losses) (s : Stores) → Ready h s → (w y : List ℕ)
+      → run n (onward k h c w y) s l ≡ also w y (outputFor k h c (recordsOf width l))
+
+  -- ---- one packet
+
+  module _ (n k m : ℕ) (h : Held) (c : Losses) (s : Stores) (r : Ready h s) (p : Numbered) (l : List ℕ) (again : Comes n l) where
+    turned : outcome (inputsBy h (incoming p) (s .store) (s .out)) ≡ turn h p
+    turned =
+        outcome-holding h (incoming p) (s .store) (s .out) (r .holding)
+        ∙ ap₂ (λ (a b : ℕ). taken a b h (incoming p)) (r .store-is) (r .out-is)
+
+    -- what becomes of it, where the receiver says so
+    abbrev RunBy : Answer Taken → Output
+    RunBy a =
+        let x = after a (s .store) (s .out) in
+        run n (bodyTold (within k h c m) (stepBy (x .answer))) (record { store = x .store; out = x .output }) l
+
+    by-turn : (a : Answer Taken) → turn h p ≡ a
+        → RunBy a ≡ also (writtenFor a) (saidFor k a) (outputFor (nextCount k) (heldAfter h a) (lossesAfter c a) (recordsOf width l))
+    by-turn (refused j at) e = again (nextCount k) h (lossesAfter c (refused j at)) s r [] (saidFor k (refused j at))
+    by-turn (given t) e =
+        let same = outcome-holding h (incoming p) (s .store) (s .out) (r .holding) in
+        let f = taken-fits (length (s .store)) (length (s .out)) h (incoming p) t (sym same ∙ turned ∙ e) in
+        let g = holding-next h (incoming p) (s .store) (s .out) (r .holding) t (sym same ∙ turned ∙ e) in
+        again (nextCount k) (t .held) (lossesAfter c (given t)) (record { store = front (t .held .fragment) (s .store); out = front (t .bytes) (s .out) })
+        (record { holding = g .0; store-is = g .1 ∙ r .store-is; out-is = front-length (t .bytes) (s .out) (f .2) ∙ r .out-is }) (t .bytes) []
+
+    packet-run : (t : Records) → t ≡ record { items = p ∷ recordsOf width l .items; stop = recordsOf width l .stop }
+        → RunBy (outcome (inputsBy h (incoming p) (s .store) (s .out))) ≡ outputFor k h c t
     unfolding unpackedFrom saidFrom lossesFrom
-    by-body ends q = absurd (body-there m 0 body q)
-    by-body (stops j) q =
-        run-stops n some (within k h c m) _ _ _ _
-        ∙ sym (ap (outputFor k h c) (stream-cut lengthWidth l (omega arith) m e j q))
-    by-body (holds x) q =
-        packet-run n k m h c s r (packetIn body x) (drop m (drop lengthWidth l)) again (recordsOf lengthWidth l)
-        (stream-next lengthWidth l (omega arith) m e x q
-        ∙ ap (λ (j : List ℕ). record { packets = packetIn body x ∷ recordsOf lengthWidth j .packets; stop = recordsOf lengthWidth j .stop }) (sym (drop-drop m lengthWidth l)))
+    packet-run t e =
+        ap RunBy turned ∙ by-turn (turn h p) refl
+        ∙ ap (λ (said : List ℕ). record { written = writtenFor (turn h p) ++ unpackedFrom (heldAfter h (turn h p)) (recordsOf width l .items); said = said })
+        (sym (append-assoc (saidFor k (turn h p)) _ _))
+        ∙ sym (ap (outputFor k h c) e)
 
-  by-length : (n : ℕ) → 3 ≤ n → ((m : ℕ) → lengthOf lengthWidth (take lengthWidth l) ≡ stated m → (j : ℕ) → n ≡ suc j → Comes j (drop m (drop lengthWidth l)))
-      → (x : Length) → lengthOf lengthWidth (take lengthWidth l) ≡ x
-      → (let t = lengthTold (before k h c) x in
-      run n t (record { store = s .store; out = front (t .written) (s .out) }) (drop lengthWidth l))
-      ≡ Expected
-  unfolding loop unpackedFrom saidFrom lossesFrom stepOf
-  by-length n some again over e =
-      run-losses n (omega arith) (before k h c) (withOpen c (length (h .fragment))) _ _
-      ∙ sym (ap (outputFor k h c) (stream-over lengthWidth l (omega arith) e))
-  by-length n some again (bad j) e =
-      run-stops n (omega arith) (before k h c) _ _ _ _
-      ∙ sym (ap (outputFor k h c) (stream-bad lengthWidth l (omega arith) j e))
-  by-length zero some again (stated m) e = absurd (omega arith)
-  by-length (suc n) some again (stated m) e =
-      ap (also [] []) (by-body n m e (omega arith) (again m e n refl) (bodyOf m 0 (take m (drop lengthWidth l))) refl)
+  -- ---- one record
 
--- ---- all records
+  module _ (k : ℕ) (h : Held) (c : Losses) (s : Stores) (r : Ready h s) (l : List ℕ) where
+    abbrev Expected : Output
+    Expected = outputFor k h c (recordsOf width l)
 
--- after a length that was read whole, less is left
-shorter : (l : List ℕ) (m : ℕ) → lengthOf lengthWidth (take lengthWidth l) ≡ stated m → length (drop m (drop lengthWidth l)) + 2 ≤ length l
-shorter l m e =
-    let s = stated-within lengthWidth (take lengthWidth l) m (sym e) in
-    omega (arith, s .0, length-take lengthWidth l, length-drop lengthWidth l, length-drop m (drop lengthWidth l))
+    module _ (n m : ℕ) (e : lengthOf width (take width l) ≡ stated m) (some : 2 ≤ n) (again : Comes n (drop m (drop width l))) where
+      abbrev body : List ℕ
+      body = take m (drop width l)
 
-run-records : (most n : ℕ) → n ≤ most → (l : List ℕ) → length l + 4 ≤ n → Comes n l
-unfolding loop
-run-records zero n b l a k h c s r w y = absurd (omega arith)
-run-records (suc most) zero b l a k h c s r w y = absurd (omega arith)
-run-records (suc most) (suc n) b l a k h c s r w y =
-    ap (also w y)
-    (by-length k h c s r l n (omega arith)
-    (λ m e j q. run-records most j (omega arith) (drop m (drop lengthWidth l)) (omega (arith, shorter l m e)))
-    (lengthOf lengthWidth (take lengthWidth l)) refl)
+      by-body : (f : Front) → bodyOf m 0 body ≡ f
+          → (let x = stepAt (stateOf h) body (s .store) (s .out) f in
+          run n (bodyTold (within k h c m) (x .answer)) (record { store = x .store; out = x .output }) (drop m (drop width l)))
+          ≡ Expected
+      unfolding unpackedFrom saidFrom lossesFrom
+      by-body ends q = absurd (body-there m 0 body q)
+      by-body (stops j) q =
+          run-stops n some (within k h c m) _ _ _ _
+          ∙ sym (ap (outputFor k h c) (records-cut width l (omega arith) m e j q))
+      by-body (holds x) q =
+          packet-run n k m h c s r (packetIn body x) (drop m (drop width l)) again (recordsOf width l)
+          (records-next width l (omega arith) m e x q
+          ∙ ap (λ (j : List ℕ). record { items = packetIn body x ∷ recordsOf width j .items; stop = recordsOf width j .stop }) (sym (drop-drop m width l)))
+
+    by-length : (n : ℕ) → 3 ≤ n → ((m : ℕ) → lengthOf width (take width l) ≡ stated m → (j : ℕ) → n ≡ suc j → Comes j (drop m (drop width l)))
+        → (x : Length) → lengthOf width (take width l) ≡ x
+        → run n (lengthTold (before k h c) x) s (drop width l) ≡ Expected
+    unfolding loop unpackedFrom saidFrom lossesFrom stepOf
+    by-length n some again over e =
+        run-losses n (omega arith) (before k h c) (withOpen c (length (h .fragment))) _ _
+        ∙ sym (ap (outputFor k h c) (records-over width l (omega arith) e))
+    by-length n some again (bad j) e =
+        run-stops n (omega arith) (before k h c) _ _ _ _
+        ∙ sym (ap (outputFor k h c) (records-bad width l (omega arith) j e))
+    by-length zero some again (stated m) e = absurd (omega arith)
+    by-length (suc n) some again (stated m) e =
+        ap (also [] []) (by-body n m e (omega arith) (again m e n refl) (bodyOf m 0 (take m (drop width l))) refl)
+
+  -- ---- all records
+
+  -- after a length that was read whole, less is left
+  shorter : (l : List ℕ) (m : ℕ) → lengthOf width (take width l) ≡ stated m → length (drop m (drop width l)) + 2 ≤ length l
+  shorter l m e =
+      let s = stated-within width (take width l) m (sym e) in
+      omega (arith, s .0, length-take width l, length-drop width l, length-drop m (drop width l))
+
+  run-records : (most n : ℕ) → n ≤ most → (l : List ℕ) → length l + 4 ≤ n → Comes n l
+  unfolding loop
+  run-records zero n b l a k h c s r w y = absurd (omega arith)
+  run-records (suc most) zero b l a k h c s r w y = absurd (omega arith)
+  run-records (suc most) (suc n) b l a k h c s r w y =
+      ap (also w y)
+      (by-length k h c s r l n (omega arith)
+      (λ m e j q. run-records most j (omega arith) (drop m (drop width l)) (omega (arith, shorter l m e)))
+      (lengthOf width (take width l)) refl)
 
 -- ---- the file
 
@@ -199,16 +200,17 @@ pub run-unpacks : (turns : ℕ) (s : Stores) (file : List ℕ) → length (s .st
 unfolding loop unpackedFrom
 run-unpacks zero s file p q h = absurd (omega arith)
 run-unpacks (suc n) s file p q h =
-    ap By (head-first file) ∙ go (headOf file)
+    ap By (head-first file) ∙ go (headOf file) refl
   where
     start : Place
     start = startsWith .place
 
-    By : Answer ℕ → Output
-    By a =
-        let t = versionTold start a in
-        also [] [] (run n t (record { store = s .store; out = front (t .written) (s .out) }) (drop 1 file))
+    By : Answer TrainHead → Output
+    By a = also [] [] (run n (versionTold start a) s (drop 1 file))
 
-    go : (a : Answer ℕ) → By a ≡ record { written = unpackedFrom fresh (standing (trainBy lengthWidth (drop 1 file) a)); said = saidBy (trainBy lengthWidth (drop 1 file) a) }
-    go (given v) = run-records n n (omega arith) (drop 1 file) (omega (arith, length-drop 1 file)) 0 fresh noLosses s (record { holding = holding-fresh (s .store); store-is = p; out-is = q }) [] []
-    go (refused m at) = run-stops n (omega arith) start _ _ _ (drop 1 file) ∙ ap only (append-nil (lineText _ _))
+    go : (a : Answer TrainHead) → a ≡ headOf file
+        → By a ≡ record { written = unpackedFrom fresh (standing (trainBy (drop 1 file) a)); said = saidBy (trainBy (drop 1 file) a) }
+    go (given x) e =
+        let wide : 2 ≤ x .width = rw (head-known file e) (omega arith) in
+        run-records (x .width) wide n n (omega arith) (drop 1 file) (omega (arith, length-drop 1 file)) 0 fresh noLosses s (record { holding = holding-fresh (s .store); store-is = p; out-is = q }) [] []
+    go (refused m at) e = run-stops n (omega arith) start _ _ _ (drop 1 file) ∙ ap only (append-nil (lineText _ _))

@@ -1,82 +1,72 @@
 -- One record given to the receiver, by what was read of it. Assumes nothing.
 use mathlib.Core.Path.{_≡_, refl, ap, _∙_}
-use Prim.Native.Nat.{ℕ, _+_, _-_, _≤_, _<_}
+use Prim.Native.Nat.{ℕ, _+_, _-_, _≤_}
 use native.Mathlib.Omega.{arith}
 use mathlib.Core.List.{List}
-use lib.ListN.{length, getD, take, drop}
+use lib.ListN.{length, take, drop}
 use Rattle.base.specs.Answers.{Answer, given, refused}
-use Rattle.base.specs.Lists.{front}
-use Rattle.train.specs.Train.{lengthWidth, Length, over, stated, bad, lengthOf, Front, ends, holds, stops, bodyOf, packetIn}
+use Rattle.train.specs.Train.{Front, ends, holds, stops, bodyOf, packetIn}
 use Rattle.train.specs.declared.RecordHead.{RecordHead}
-use Rattle.train.proofs.Numbers.{two-value}
-use Rattle.train.proofs.Reading.{stated-within}
 use Rattle.receiver.specs.Call as call
-use Rattle.receiver.specs.Call.{Taken, outcome, receiveAnswer, storeAfter, outputAfter}
+use Rattle.receiver.specs.Call.{Taken, Inputs, inputs, outcome, After, leaves, answering, after, afterTaking, received}
 use Rattle.receiver.specs.declared.State.{State}
 use Rattle.receiver.specs.declared.Received.{Received}
 use Rattle.receiver.proofs.Laws.{answer-within}
-use Rattle.unpacking.specs.Unpack.{payloadBytes, statedIn, Step, takes, passes, breaks, quits, stepBy, stepAt, stepOf, storeBy, writtenBy}
+use Rattle.unpacking.specs.Unpack.{Step, takes, passes, breaks, quits, incoming, stepBy, stepAt, stepOf}
 use Rattle.unpacking.specs.Paper.{answered}
-
--- a length of two bytes is within the payload buffer
-pub stated-small : (l : List ℕ) → ((i : ℕ) → getD l i 0 < 256) → (a : Length) → a ≡ lengthOf lengthWidth l → statedIn a ≤ payloadBytes
-stated-small l b over e = omega arith
-stated-small l b (bad k) e = omega arith
-stated-small l b (stated n) e =
-    let s = stated-within lengthWidth l n e in
-    omega (arith, s .3, two-value l (s .0), b 0, b 1)
 
 -- ---- one record
 
 module _ (state : State) (n : ℕ) (body store out : List ℕ) where
-  -- this step answered, with store and output after it
-  abbrev Outcomes : Step Received → List ℕ → List ℕ → Step Taken → Type 0
-  Outcomes s store′ out′ step = (s ≡ answered step) × (store′ ≡ storeBy step store) × (out′ ≡ front (writtenBy step) out)
+  -- this step is answered, and leaves these bytes
+  abbrev Answers : Step Received → List ℕ → List ℕ → After (Step Taken) → Type 0
+  Answers s store′ out′ x = leaves s store′ out′ ≡ answering answered x
 
-  abbrev pub Outcome : Step Received → List ℕ → List ℕ → Type 0
-  Outcome s store′ out′ = Outcomes s store′ out′ (stepOf state n body store out)
-
-  by-front : (f : Front) → f ≡ bodyOf n 0 body → (s : Step Received) (store′ out′ : List ℕ) → Outcomes s store′ out′ (stepAt state body store out f) → Outcome s store′ out′
+  by-front : {f : Front} → f ≡ bodyOf n 0 body → {s : Step Received} {store′ out′ : List ℕ}
+      → Answers s store′ out′ (stepAt state body store out f) → Answers s store′ out′ (stepOf state n body store out)
   unfolding stepOf
-  by-front f e s store′ out′ o = rw (← e) o
+  by-front e o = rw (← e) o
 
-  pub step-quits : ends ≡ bodyOf n 0 body → Outcome quits store out
-  step-quits e = by-front ends e quits store out (refl, refl, refl)
+  pub step-quits : ends ≡ bodyOf n 0 body → Answers quits store out (stepOf state n body store out)
+  step-quits e = by-front e refl
 
-  pub step-breaks : (k : ℕ) → stops k ≡ bodyOf n 0 body → Outcome (breaks k) store out
-  step-breaks k e = by-front (stops k) e (breaks k) store out (refl, refl, refl)
+  pub step-breaks : {k : ℕ} → stops k ≡ bodyOf n 0 body → Answers (breaks k) store out (stepOf state n body store out)
+  step-breaks e = by-front e refl
 
-  -- the receiver's outcome
-  by-outcome : (o : Answer Taken) → Outcomes (stepBy (call.answered o)) (call.storeBy o store) (call.outputBy o out) (stepBy o)
-  by-outcome (given t) = (refl, refl, refl)
-  by-outcome (refused k at) = (refl, refl, refl)
-
-  -- on the part that the record's head speaks of
-  pub step-received : (h : RecordHead) (a : Answer Received) (store′ out′ : List ℕ) → holds h ≡ bodyOf n 0 body
-      → a ≡ receiveAnswer state (h .number) (take (h .start + h .length - h .start) (drop (h .start) body)) store out
-      → store′ ≡ storeAfter state (h .number) (take (h .start + h .length - h .start) (drop (h .start) body)) store out
-      → out′ ≡ outputAfter state (h .number) (take (h .start + h .length - h .start) (drop (h .start) body)) store out
-      → Outcome (stepBy a) store′ out′
-  step-received h a store′ out′ e p q r =
+  -- the receiver's answer, on the part that the record's head speaks of
+  pub step-received : {h : RecordHead} {a b : Answer Received} {store′ out′ : List ℕ} → holds h ≡ bodyOf n 0 body → a ≡ b
+      → leaves b store′ out′ ≡ received (inputs state (h .number) (take (h .start + h .length - h .start) (drop (h .start) body)) store out)
+      → Answers (stepBy a) store′ out′ (stepOf state n body store out)
+  step-received {h} {a} {b} {store′} {out′} e q r =
       let m : h .start + h .length - h .start ≡ h .length = omega arith in
-      let o = by-outcome (outcome state (packetIn body h .number) (packetIn body h .payload) store out) in
-      by-front (holds h) e (stepBy a) store′ out′ (ap stepBy (rw m at p) ∙ o .0, rw m at q ∙ o .1, rw m at r ∙ o .2)
+      by-front e (ap (λ (x : Answer Received). leaves (stepBy x) store′ out′) q ∙ ap (answering stepBy) (rw m at r)
+      ∙ same (afterTaking (inputs state (h .number) (take (h .length) (drop (h .start) body)) store out)))
+    where
+      by-answer : (a : Answer Taken) → stepBy (call.answered a) ≡ answered (stepBy a)
+      by-answer (given t) = refl
+      by-answer (refused k at) = refl
+
+      same : (x : After (Answer Taken)) → answering stepBy (answering call.answered x) ≡ answering answered (answering stepBy x)
+      same x = ap (λ (s : Step Received). leaves s (x .store) (x .output)) (by-answer (x .answer))
 
   -- what goes out is within the output
-  pub step-within : (t : Taken) → takes t ≡ stepOf state n body store out → length (t .bytes) ≤ length out
+  pub step-within : {t : Taken} → takes t ≡ stepOf state n body store out .answer → length (t .bytes) ≤ length out
   unfolding stepOf
-  step-within t e = go (bodyOf n 0 body) e
+  step-within {t} e = go (bodyOf n 0 body) e
     where
-      by-answer : (number : ℕ) (payload : List ℕ) (a : Answer Taken) → a ≡ outcome state number payload store out → takes t ≡ stepBy a → length (t .bytes) ≤ length out
-      by-answer number payload (given x) q f =
-          let same : t ≡ x = cc in
-          rw same (answer-within state number payload store out (call.receivedOf x) (ap call.answered q))
-      by-answer number payload (refused k at) q f = let z : _≡_ {A = ℕ} 0 1 = cc in absurd (omega arith)
+      by-taking : (i : Inputs) → takes t ≡ stepBy (afterTaking i .answer) → length (t .bytes) ≤ length (i .output)
+      by-taking i q = by (outcome i) refl q
+        where
+          by : (a : Answer Taken) → a ≡ outcome i → takes t ≡ stepBy (after a (i .store) (i .output) .answer) → length (t .bytes) ≤ length (i .output)
+          by (given x) q f =
+              let same : t ≡ x = cc in
+              rw same (answer-within i (call.receivedOf x) (ap (λ (a : Answer Taken). call.answered (after a (i .store) (i .output) .answer)) q))
+          by (refused k at) q f = let z : _≡_ {A = ℕ} 0 1 = cc in absurd (omega arith)
 
-      go : (f : Front) → takes t ≡ stepAt state body store out f → length (t .bytes) ≤ length out
+      go : (f : Front) → takes t ≡ stepAt state body store out f .answer → length (t .bytes) ≤ length out
       go ends q = let z : _≡_ {A = ℕ} 0 1 = cc in absurd (omega arith)
       go (stops k) q = let z : _≡_ {A = ℕ} 0 1 = cc in absurd (omega arith)
-      go (holds h) q = by-answer (packetIn body h .number) (packetIn body h .payload) _ refl q
+      go (holds h) q = by-taking (record { state = state; packet = incoming (packetIn body h); store = store; output = out }) q
 
 -- ---- a step, by what is answered
 

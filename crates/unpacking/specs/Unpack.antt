@@ -5,33 +5,34 @@ use mathlib.Core.Bool.{Bool, false, cond, _&&_}
 use lib.ListN.{length}
 use lib.Dec.{eqb, ltb}
 use Rattle.base.specs.Answers.{Answer, given, refused}
-use Rattle.base.specs.Lists.{front}
 use Rattle.base.specs.Words.{ascii}
-use Rattle.train.specs.Train.{lengthWidth, Packet, Length, over, stated, bad, Front, ends, holds, stops, bodyOf, packetIn, Stop, ended, refusedBy, Train, trainIn, standing}
-use Rattle.receiver.specs.Joining.{Held, Lost, fresh}
-use Rattle.receiver.specs.Call.{Taken, taken, outcome}
+use Rattle.train.specs.Train.{Numbered, Front, ends, holds, stops, bodyOf, packetIn, TrainEnd, ended, refusedBy, Records, trainIn, standing}
+use Rattle.receiver.specs.Joining.{label, Held, Lost, fresh}
+use Rattle.receiver.specs.Call.{Incoming, Taken, taken, After, leaves, answering, afterTaking}
 use Rattle.receiver.specs.declared.State.{State}
-use Rattle.turns.specs.Text.{decimal, lineText}
+pub use Rattle.turns.specs.Stores.{outputBytes}
+use Rattle.turns.specs.Text.{labelled, lineText}
 use Rattle.turns.specs.Orders.{nextCount}
 use Rattle.turns.specs.declared.Subject.the-variants as subject
 use Rattle.turns.specs.declared.Word.the-variants as word
 use Rattle.unpacking.specs.declared.losses.Losses.{Losses}
 
--- L14, L15: the bytes of a record after its length, of the output, and of the fragment store
+-- L14, L15: the bytes of a record after its length, and of the fragment store
 abbrev pub payloadBytes : ℕ
 payloadBytes = 65536
-
-abbrev pub outputBytes : ℕ
-outputBytes = 65536
 
 abbrev pub fragmentStore : ℕ
 fragmentStore = 32768
 
 -- ---- the whole train (G5)
 
--- what the receiver makes of a packet, where it holds h
-abbrev pub turn : Held → Packet → Answer Taken
-turn h p = taken fragmentStore outputBytes h (p .number) (p .payload)
+-- a packet of a train, as the receiver is given it
+abbrev pub incoming : Numbered → Incoming
+incoming p = record { label = label (p .number); payload = p .payload }
+
+-- what the receiver makes of it, where it holds h
+abbrev pub turn : Held → Numbered → Answer Taken
+turn h p = taken fragmentStore outputBytes h (incoming p)
 
 -- what it then holds, and what is written; a refused packet is passed over
 abbrev pub heldAfter : Held → Answer Taken → Held
@@ -42,13 +43,13 @@ abbrev pub writtenFor : Answer Taken → List ℕ
 writtenFor (given t) = t .bytes
 writtenFor (refused n at) = []
 
-unfoldable pub unpackedFrom : Held → List Packet → List ℕ
+unfoldable pub unpackedFrom : Held → List Numbered → List ℕ
 unpackedFrom h [] = []
 unpackedFrom h (p ∷ ps) = writtenFor (turn h p) ++ unpackedFrom (heldAfter h (turn h p)) ps
 
 -- the packets that stand go to a fresh receiver
 abbrev pub unpackOf : List ℕ → List ℕ
-unpackOf file = unpackedFrom fresh (standing (trainIn lengthWidth file))
+unpackOf file = unpackedFrom fresh (standing (trainIn file))
 
 -- ---- what is lost (G15): packets passed over, open fragments and leading elements thrown away
 
@@ -75,7 +76,7 @@ abbrev pub withOpen : Losses → ℕ → Losses
 withOpen c bytes = withTaken c (record { fragment = ltb 0 bytes; element = false })
 
 -- those of packets, where h is held before them
-unfoldable pub lossesFrom : Losses → Held → List Packet → Losses
+unfoldable pub lossesFrom : Losses → Held → List Numbered → Losses
 lossesFrom c h [] = withOpen c (length (h .fragment))
 lossesFrom c h (p ∷ ps) = lossesFrom (lossesAfter c (turn h p)) (heldAfter h (turn h p)) ps
 
@@ -87,20 +88,20 @@ saidFor k (given t) = []
 saidFor k (refused n at) = lineText (subject.Record k) (word.Refused n)
 
 -- of the record where reading stops
-abbrev pub saidAt : ℕ → Stop → List ℕ
+abbrev pub saidAt : ℕ → TrainEnd → List ℕ
 saidAt k ended = []
 saidAt k (refusedBy n) = lineText (subject.Record k) (word.Refused n)
 
-unfoldable pub saidFrom : ℕ → Held → List Packet → Stop → List ℕ
+unfoldable pub saidFrom : ℕ → Held → List Numbered → TrainEnd → List ℕ
 saidFrom k h [] stop = saidAt k stop
 saidFrom k h (p ∷ ps) stop = saidFor k (turn h p) ++ saidFrom (nextCount k) (heldAfter h (turn h p)) ps stop
 
 -- G15, at the end: one line, if something was lost
 unfoldable pub lossesLine : Losses → List ℕ
 lossesLine c =
-    ascii "lost: " ++ (decimal (c .packets) ++ (ascii " packets passed over, "
-    ++ (decimal (c .fragments) ++ (ascii " open fragments, "
-    ++ (decimal (c .elements) ++ ascii " leading elements\n")))))
+    labelled (ascii "lost: ") (c .packets)
+    ++ (labelled (ascii " packets passed over, ") (c .fragments)
+    ++ (labelled (ascii " open fragments, ") (c .elements) ++ ascii " leading elements\n"))
 
 abbrev pub isNone : Losses → Bool
 isNone c = eqb (c .packets) 0 && (eqb (c .fragments) 0 && eqb (c .elements) 0)
@@ -108,20 +109,13 @@ isNone c = eqb (c .packets) 0 && (eqb (c .fragments) 0 && eqb (c .elements) 0)
 abbrev pub saidOf : Losses → List ℕ
 saidOf c = cond (isNone c) [] (lossesLine c)
 
-abbrev pub saidBy : Answer Train → List ℕ
-saidBy (given t) = saidFrom 0 fresh (t .packets) (t .stop) ++ saidOf (lossesFrom noLosses fresh (t .packets))
+abbrev pub saidBy : Answer Records → List ℕ
+saidBy (given t) = saidFrom 0 fresh (t .items) (t .stop) ++ saidOf (lossesFrom noLosses fresh (t .items))
 saidBy (refused n at) = lineText subject.Train (word.Refused n)
 
 -- all lines on standard error
 abbrev pub unpackSays : List ℕ → List ℕ
-unpackSays file = saidBy (trainIn lengthWidth file)
-
--- ---- the length of a record: how many bytes are to be read
-
-abbrev pub statedIn : Length → ℕ
-statedIn over = 0
-statedIn (stated n) = n
-statedIn (bad k) = 0
+unpackSays file = saidBy (trainIn file)
 
 -- ---- one record, of which number and payload were read
 
@@ -136,24 +130,13 @@ abbrev pub stepBy : {A : Type 0} → Answer A → Step A
 stepBy (given a) = takes a
 stepBy (refused n at) = passes n
 
-abbrev pub stepAt : State → List ℕ → List ℕ → List ℕ → Front → Step Taken
-stepAt state body store out ends = quits
-stepAt state body store out (stops k) = breaks k
-stepAt state body store out (holds h) = stepBy (outcome state (packetIn body h .number) (packetIn body h .payload) store out)
+-- by its front: that, with store and output after it, which the receiver alone changes
+abbrev pub stepAt : State → List ℕ → List ℕ → List ℕ → Front → After (Step Taken)
+stepAt state body store out ends = leaves quits store out
+stepAt state body store out (stops k) = leaves (breaks k) store out
+stepAt state body store out (holds h) =
+    answering stepBy (afterTaking (record { state = state; packet = incoming (packetIn body h); store = store; output = out }))
 
 -- of a record that states n bytes, where these were read
-unfoldable pub stepOf : State → ℕ → List ℕ → List ℕ → List ℕ → Step Taken
+unfoldable pub stepOf : State → ℕ → List ℕ → List ℕ → List ℕ → After (Step Taken)
 stepOf state n body store out = stepAt state body store out (bodyOf n 0 body)
-
--- store and output after it
-abbrev pub storeBy : Step Taken → List ℕ → List ℕ
-storeBy (takes t) store = front (t .held .fragment) store
-storeBy (passes n) store = store
-storeBy (breaks n) store = store
-storeBy quits store = store
-
-abbrev pub writtenBy : Step Taken → List ℕ
-writtenBy (takes t) = t .bytes
-writtenBy (passes n) = []
-writtenBy (breaks n) = []
-writtenBy quits = []

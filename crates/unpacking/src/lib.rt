@@ -15,19 +15,19 @@ ghost use mathlib.Core.Path.{_≡_};
 ghost use Prim.Native.Nat.{_≤_};
 ghost use mathlib.Core.List.{[]};
 ghost use lib.ListN.{length};
-ghost use Rattle.base.specs.Lists.{front};
 ghost use Rattle.train.specs.Train.{lengthWidth, leastStated, lengthOf, headOf};
+ghost use Rattle.receiver.specs.Call.{answering};
 ghost use Rattle.turns.specs.Text.{lineBytes};
 ghost use Rattle.turns.specs.Orders.{arrival, says};
-ghost use Rattle.unpacking.specs.Unpack.{outputBytes, stepOf, storeBy, writtenBy};
-ghost use Rattle.unpacking.specs.Steps.{awaits, next, readOf, writtenOf, startsWith, closeTold, versionTold, lengthTold, bodyTold, told, storeNext, Possible, Gives, Lent};
+ghost use Rattle.unpacking.specs.Unpack.{outputBytes, stepOf};
+ghost use Rattle.unpacking.specs.Steps.{awaits, first, next, readOf, writtenOf, startsWith, closeTold, versionTold, lengthTold, bodyTold, stepped, PossibleBy, Gives, Comes, Lent};
 
 // The bytes of the version, of a record after its length, of the output, and of the fragment store (L14, L15).
 const VERSION_BYTES: usize = 1;
 
 pub const PAYLOAD_BYTES: usize = 65536;
 
-pub const OUTPUT_BYTES: usize = 65536;
+pub const OUTPUT_BYTES: usize = turns::OUTPUT_BYTES;
 
 pub const FRAGMENT_STORE: usize = 32768;
 
@@ -41,10 +41,12 @@ pub enum Wait {
     Nothing,
 }
 
-// Where a run stands: what it waits for, how many records came before, the receiver's state, and what was lost.
+// Where a run stands: what it waits for, how many records came before, the width of the train's length fields once its head was read,
+// the receiver's state, and what was lost.
 pub struct Place {
     pub wait: Wait,
     pub count: u64,
+    pub width: usize,
     pub state: State,
     pub losses: Losses,
 }
@@ -64,6 +66,22 @@ fn awaiting(place: Place, wait: Wait) -> Place
     Place {
         wait: wait,
         count: place.count,
+        width: place.width,
+        state: state,
+        losses: losses,
+    }
+}
+
+// The first record of a train with length fields of this width.
+fn beginning(place: Place, width: usize) -> Place
+    ensures { λ r. ⌜ r ≡ first place width ⌝ }
+{
+    let state = place.state;
+    let losses = place.losses;
+    Place {
+        wait: Wait::Length,
+        count: place.count,
+        width: width,
         state: state,
         losses: losses,
     }
@@ -76,6 +94,7 @@ fn following(place: Place, state: State, losses: Losses) -> Place
     Place {
         wait: Wait::Length,
         count: turns::next_count(place.count),
+        width: place.width,
         state: state,
         losses: losses,
     }
@@ -85,16 +104,13 @@ fn following(place: Place, state: State, losses: Losses) -> Place
 pub fn start() -> Turn
     ensures { λ r. ⌜ Gives startsWith r [] [] ⌝ }
 {
-    let state = State {
-        begun: false,
-        last: 0,
-        open: 0,
-    };
+    let state = receiver::FRESH;
     let losses = losses::none();
     Turn {
         place: Place {
             wait: Wait::Version,
             count: 0,
+            width: 0,
             state: state,
             losses: losses,
         },
@@ -125,7 +141,7 @@ fn close(place: Place, line: &mut [u8]) -> Turn
 
 // A line is said, and then this is waited for; nothing is read.
 fn say(place: Place, wait: Wait, subject: Subject, word: Word, line: &mut [u8]) -> Turn
-    requires { ⌜ (length (now line) ≡ lineBytes) × Possible wait ⌝ }
+    requires { ⌜ (length (now line) ≡ lineBytes) × PossibleBy wait (place .width) ⌝ }
     ensures { λ r. ⌜ Gives (says (awaits place wait) subject word 0) r (now (line .entry)) (now (line .exit)) ⌝ }
 {
     Turn {
@@ -140,10 +156,13 @@ fn version_step(place: Place, got: &[u8], line: &mut [u8]) -> Turn
     ensures { λ r. ⌜ Gives (versionTold place (headOf (now (got .entry)))) r (now (line .entry)) (now (line .exit)) ⌝ }
 {
     match train::read_head(got) {
-        HeadRead::Train(_) => Turn {
-            place: awaiting(place, Wait::Length),
-            order: turns::ask(0, train::LENGTH_WIDTH),
-        },
+        HeadRead::Train(head) => {
+            let width = head.width;
+            Turn {
+                place: beginning(place, width),
+                order: turns::ask(0, width),
+            }
+        }
         HeadRead::Refused(refusal) => {
             let word = Word::Refused(base::number(refusal));
             say(place, Wait::Close, Subject::Train, word, line)
@@ -153,10 +172,10 @@ fn version_step(place: Place, got: &[u8], line: &mut [u8]) -> Turn
 
 // After a record's length, or what there was of it.
 fn length_step(place: Place, got: &[u8], line: &mut [u8]) -> Turn
-    requires { ⌜ length (now line) ≡ lineBytes ⌝ }
-    ensures { λ r. ⌜ Gives (lengthTold place (lengthOf lengthWidth (now (got .entry)))) r (now (line .entry)) (now (line .exit)) ⌝ }
+    requires { ⌜ (length (now line) ≡ lineBytes) × (place .width ≡ lengthWidth) ⌝ }
+    ensures { λ r. ⌜ Gives (lengthTold place (lengthOf (place .width) (now (got .entry)))) r (now (line .entry)) (now (line .exit)) ⌝ }
 {
-    match records::read_stated(got) {
+    match train::read_length(got, place.width) {
         LengthRead::End => close(place, line),
         LengthRead::Refused(refusal) => {
             let word = Word::Refused(base::number(refusal));
@@ -181,10 +200,9 @@ fn body_step(
     out: &mut [u8],
     line: &mut [u8],
 ) -> Turn
-    requires { ⌜ (leastStated ≤ stated) × (length (now out) ≡ outputBytes) × (length (now line) ≡ lineBytes) ⌝ }
-    ensures { λ r. ⌜ Gives (bodyTold place (stepOf (place .state) stated (now (got .entry)) (now (store .entry)) (now (out .entry)))) r (now (line .entry)) (now (line .exit))
-        × (now (store .exit) ≡ storeBy (stepOf (place .state) stated (now (got .entry)) (now (store .entry)) (now (out .entry))) (now (store .entry)))
-        × (now (out .exit) ≡ front (writtenBy (stepOf (place .state) stated (now (got .entry)) (now (store .entry)) (now (out .entry)))) (now (out .entry))) ⌝ }
+    requires { ⌜ (leastStated ≤ stated) × (length (now out) ≡ outputBytes) × (length (now line) ≡ lineBytes) × (place .width ≡ lengthWidth) ⌝ }
+    ensures { λ r. ⌜ Comes (answering (bodyTold place) (stepOf (place .state) stated (now (got .entry)) (now (store .entry)) (now (out .entry))))
+        r (now (line .entry)) (now (line .exit)) (now (store .exit)) (now (out .exit)) ⌝ }
 {
     let state = place.state;
     let before = place.losses;
@@ -199,7 +217,7 @@ fn body_step(
             let word = Word::Refused(base::number(refusal));
             Turn {
                 place: following(place, state, losses::with_passed(before)),
-                order: turns::say(record, word, train::LENGTH_WIDTH, line),
+                order: turns::say(record, word, place.width, line),
             }
         }
         RecordStep::Taken(taken) => {
@@ -207,7 +225,7 @@ fn body_step(
             let lost = losses::with_taken(before, taken.fragment_lost, taken.element_lost);
             Turn {
                 place: following(place, after, lost),
-                order: turns::ask(taken.bytes, train::LENGTH_WIDTH),
+                order: turns::ask(taken.bytes, place.width),
             }
         }
     }
@@ -238,8 +256,8 @@ fn written_subject(k: u64) -> Subject
 }
 
 // The next turn, by what came of the one before: all that `unpack` decides.
-// Helper: every store must have exactly its length (L14, L15), no more bytes may have come than the input holds, and a record that is
-// waited for must state 3 or more.
+// Helper: every store must have exactly its length (L14, L15), no more bytes may have come than the input holds, and where a record is
+// waited for, the width must be that of its train, and the record must state 3 or more.
 pub fn step(
     place: Place,
     came: Came,
@@ -249,9 +267,8 @@ pub fn step(
     line: &mut [u8],
 ) -> Turn
     requires { ⌜ Lent place came (now input) (now store) (now out) (now line) ⌝ }
-    ensures { λ r. ⌜ Gives (told place (arrival came (now (input .entry))) (now (store .entry)) (now (out .entry))) r (now (line .entry)) (now (line .exit))
-        × (now (store .exit) ≡ storeNext place (arrival came (now (input .entry))) (now (store .entry)) (now (out .entry)))
-        × (now (out .exit) ≡ front (told place (arrival came (now (input .entry))) (now (store .entry)) (now (out .entry)) .written) (now (out .entry))) ⌝ }
+    ensures { λ r. ⌜ Comes (stepped place (arrival came (now (input .entry))) (now (store .entry)) (now (out .entry)))
+        r (now (line .entry)) (now (line .exit)) (now (store .exit)) (now (out .exit)) ⌝ }
 {
     let wait = place.wait;
     let count = place.count;

@@ -76,11 +76,8 @@ pub fn put_losses(losses: Losses, line: &mut [u8]) -> usize
     requires { ⌜ length (now line) ≡ lineBytes ⌝ }
     ensures { λ r. ⌜ (r ≡ length (lossesLine losses)) × (now (line .exit) ≡ front (lossesLine losses) (now (line .entry))) ⌝ }
 {
-    let a = base::put_text(b"lost: ", line, 0);
-    let b = turns::put_decimal(losses.packets, line, a);
-    let c = base::put_text(b" packets passed over, ", line, b);
-    let d = turns::put_decimal(losses.fragments, line, c);
-    let e = base::put_text(b" open fragments, ", line, d);
-    let f = turns::put_decimal(losses.elements, line, e);
-    base::put_text(b" leading elements\n", line, f)
+    let passed = turns::put_labelled(b"lost: ", losses.packets, line, 0);
+    let open = turns::put_labelled(b" packets passed over, ", losses.fragments, line, passed);
+    let end = turns::put_labelled(b" open fragments, ", losses.elements, line, open);
+    base::put_text(b" leading elements\n", line, end)
 }

@@ -3,14 +3,12 @@ use base::Refusal;
 use receiver::Receipt;
 use receiver::Received;
 use receiver::State;
-use train::LengthRead;
 use train::RecordRead;
 ghost use mathlib.Core.Path.{_≡_};
 ghost use Prim.Native.Nat.{_≤_};
-ghost use Rattle.base.specs.Lists.{front};
-ghost use Rattle.train.specs.Train.{lengthWidth, leastStated, lengthOf};
-ghost use Rattle.train.specs.Paper.{paperLength};
-ghost use Rattle.unpacking.specs.Unpack.{payloadBytes, statedIn, stepOf, storeBy, writtenBy};
+ghost use Rattle.train.specs.Train.{leastStated};
+ghost use Rattle.receiver.specs.Call.{leaves, answering};
+ghost use Rattle.unpacking.specs.Unpack.{stepOf};
 ghost use Rattle.unpacking.specs.Paper.{paperStep, answered};
 
 // What a record leads to: its packet is taken, or passed over; or reading stops, as the record is bad or there is none.
@@ -19,13 +17,6 @@ pub enum RecordStep {
     PassedOver(Refusal),
     Broken(Refusal),
     End,
-}
-
-// The length of the next record, or what there is of it; the payload buffer has room for so many bytes.
-pub fn read_stated(field: &[u8]) -> LengthRead
-    ensures { λ r. ⌜ (paperLength r ≡ lengthOf lengthWidth (now (field .entry))) × (statedIn (paperLength r) ≤ payloadBytes) ⌝ }
-{
-    train::read_length(field)
 }
 
 // Gives the receiver the packet of a record that states so many bytes, of which these were read.
@@ -38,9 +29,8 @@ pub fn unpack_record(
     out: &mut [u8],
 ) -> RecordStep
     requires { ⌜ leastStated ≤ stated ⌝ }
-    ensures { λ r. ⌜ (paperStep r ≡ answered (stepOf state stated (now (body .entry)) (now (store .entry)) (now (out .entry))))
-        × (now (store .exit) ≡ storeBy (stepOf state stated (now (body .entry)) (now (store .entry)) (now (out .entry))) (now (store .entry)))
-        × (now (out .exit) ≡ front (writtenBy (stepOf state stated (now (body .entry)) (now (store .entry)) (now (out .entry)))) (now (out .entry))) ⌝ }
+    ensures { λ r. ⌜ leaves (paperStep r) (now (store .exit)) (now (out .exit))
+        ≡ answering answered (stepOf state stated (now (body .entry)) (now (store .entry)) (now (out .entry))) ⌝ }
 {
     match train::read_body(body, stated) {
         RecordRead::End => RecordStep::End,

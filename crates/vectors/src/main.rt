@@ -10,8 +10,9 @@ use libc::STDIN_FILENO;
 use libc::STDOUT_FILENO;
 use payloader::PayloadAnswer;
 use payloader::Payloads;
-ghost use Prim.Native.Nat.{_≤_, _<_};
+ghost use Prim.Native.Nat.{_+_, _*_, _≤_, _<_};
 ghost use lib.ListN.{length};
+ghost use Rattle.packetizer.specs.Records.{planNumbers};
 ghost use Rattle.io.specs.Counts.{Counts};
 
 // One byte more than the longest unit, the longest lists, and the longest output.
@@ -117,28 +118,29 @@ fn print_count(n: usize) {
     io::print_decimal(STDOUT_FILENO, n as u64);
 }
 
-// A number of the list, with what stands between it and the one before.
-fn print_at(list: &[u32], k: usize) {
-    if k < list.len() {
-        if k == 0 {
-            io::write_all(STDOUT_FILENO, b" ");
+// What stands before number k of a list of records: a blank before the first, a semicolon between records, a comma inside them.
+fn print_mark(k: usize, width: usize)
+    requires { ⌜ 1 ≤ width ⌝ }
+{
+    if k == 0 {
+        io::write_all(STDOUT_FILENO, b" ");
+    } else {
+        if k % width == 0 {
+            io::write_all(STDOUT_FILENO, b";");
         } else {
-            if k % obu::OBU_NUMBERS == 0 {
-                io::write_all(STDOUT_FILENO, b";");
-            } else {
-                io::write_all(STDOUT_FILENO, b",");
-            }
+            io::write_all(STDOUT_FILENO, b",");
         }
-        print_number(list[k]);
     }
 }
 
-// The first records of a list. OBU records and plan records have as many numbers.
-fn print_records(list: &[u32], records: usize) {
-    let end = base::smaller(records, LIST_STORE) * obu::OBU_NUMBERS;
+// The records of a list, each of so many numbers.
+fn print_records(list: &[u32], width: usize)
+    requires { ⌜ 1 ≤ width ⌝ }
+{
     let mut k: usize = 0;
-    while k < end {
-        print_at(list, k);
+    while k < list.len() {
+        print_mark(k, width);
+        print_number(list[k]);
         k += 1;
     }
 }
@@ -215,7 +217,8 @@ fn print_header(obus: &[u32], plan: &[u32], k: usize) {
     }
 }
 
-fn print_headers(obus: &[u32], plan: &[u32], packets: usize) {
+fn print_headers(obus: &[u32], plan: &[u32]) {
+    let packets = plan.len() / packetizer::PLAN_NUMBERS;
     let mut k: usize = 0;
     while k < packets {
         print_between(k);
@@ -224,22 +227,17 @@ fn print_headers(obus: &[u32], plan: &[u32], packets: usize) {
     }
 }
 
-fn one_more(n: u32) -> usize {
-    n as usize + 1
-}
-
 // How many bytes payload k has, by its record.
-fn payload_size(plan: &[u32], k: usize) -> usize {
-    let at = base::smaller(k, LIST_STORE) * packetizer::PLAN_NUMBERS + 4;
-    if at < plan.len() {
-        one_more(plan[at])
-    } else {
-        0
-    }
+fn payload_size(plan: &[u32], k: usize) -> usize
+    requires { ⌜ (k + 1) * planNumbers ≤ length (now plan) ⌝ }
+{
+    let p = packetizer::packet_at(plan, k);
+    p.packet_size as usize + 1
 }
 
 // The payloads in the output, one after the other.
-fn print_payloads(plan: &[u32], output: &[u8], packets: usize) {
+fn print_payloads(plan: &[u32], output: &[u8]) {
+    let packets = plan.len() / packetizer::PLAN_NUMBERS;
     let mut at: usize = 0;
     let mut k: usize = 0;
     while k < packets {
@@ -251,18 +249,28 @@ fn print_payloads(plan: &[u32], output: &[u8], packets: usize) {
     }
 }
 
+// The first n numbers of a list.
+fn first(list: &[u32], n: usize) -> &[u32] {
+    if n <= list.len() { &list[..n] } else { list }
+}
+
+// What was written: of the two lists the filled parts count.
 fn print_written(written: Payloads, obus: &[u32], plan: &[u32], output: &[u8]) {
+    let listed = base::smaller(written.obus, LIST_STORE) * obu::OBU_NUMBERS;
+    let planned = base::smaller(written.packets, LIST_STORE) * packetizer::PLAN_NUMBERS;
+    let obus = first(obus, listed);
+    let plan = first(plan, planned);
     io::write_all(STDOUT_FILENO, b"obus ");
     print_count(written.obus);
-    print_records(obus, written.obus);
+    print_records(obus, obu::OBU_NUMBERS);
     io::write_all(STDOUT_FILENO, b" packets ");
     print_count(written.packets);
-    print_records(plan, written.packets);
+    print_records(plan, packetizer::PLAN_NUMBERS);
     if written.packets > 0 {
         io::write_all(STDOUT_FILENO, b" headers");
-        print_headers(obus, plan, written.packets);
+        print_headers(obus, plan);
         io::write_all(STDOUT_FILENO, b" payloads");
-        print_payloads(plan, output, written.packets);
+        print_payloads(plan, output);
     }
 }
 

@@ -1,29 +1,20 @@
-use mathlib.Core.Path.{_≡_, sym, ap, _∙_}
-use Prim.Native.Nat.{ℕ, _/_, _<_}
+use mathlib.Core.Path.{sym, ap, _∙_}
 use native.Mathlib.Omega.{arith}
-use mathlib.Core.List.{List}
-use lib.Bits.{bitAnd, and-mask, and-le-r}
-use lib.ListN.{length, getD}
-use Rattle.obu.specs.Unit.{obuNumbers}
-use Rattle.obu.specs.Header.{typeOf}
-use Rattle.packetizer.specs.Plan.{planNumbers}
-use Rattle.aggregation.specs.Flat.{obuOf, packetOf, obusIn, packetsIn}
-use Rattle.aggregation.proofs.Flat.{records-length, size-in, first-in}
+use Rattle.obu.specs.Records.{obusIn}
+use Rattle.obu.specs.declared.Obu.{Obu}
+use Rattle.obu.proofs.Records.{obus-count}
+use Rattle.packetizer.specs.Records.{packetsIn}
+use Rattle.packetizer.proofs.Records.{packets-count}
 use Rattle.aggregation.proofs.Calls.{none-there, lacks, answers}
 use borrow.Author.Needs.{needs}
 use Rattle.aggregation.proofs.get_aggregation_header.Statement.{statement}
 use Rattle.aggregation.proofs.get_aggregation_header.Tie as tie
 
--- how many whole records there are
-obus-count : (l : List ℕ) → length l / obuNumbers ≡ length (obusIn l)
-obus-count l = sym (records-length obuNumbers obuOf (length l / obuNumbers) l)
+abbrev start : tie.After-last-of → tie.Start
+start c = c .before .before .before .before .before
 
-packets-count : (l : List ℕ) → length l / planNumbers ≡ length (packetsIn l)
-packets-count l = sym (records-length planNumbers packetOf (length l / planNumbers) l)
-
--- the type is in the low byte
-low-type : (h : ℕ) → typeOf (bitAnd h 255) ≡ typeOf h
-low-type h = omega (arith, and-mask h 8)
+abbrev last : tie.After-obu-at2 → tie.Else2
+last c = c .before .before
 
 returns : tie.Need-returns
 returns c =
@@ -38,42 +29,29 @@ last-of-requires c κs = search needs
 
 returns-2 : tie.Need-returns-2
 returns-2 c =
-    let a = c .before .before .before .before .before .before .args in
+    let l = c .before in
+    let a = start l .args in
     lacks (obusIn (a .obus .now)) (packetsIn (a .plan .now)) (a .k) (omega (arith, packets-count (a .plan .now))) _ _ _
-    (obus-count (a .obus .now)) (c .before .before .packet-at .ensures) (c .before .last-of .ensures) (c .if2 .taken)
+    (sym (obus-count (a .obus .now))) (l .before .packet-at .ensures) (l .last-of .ensures) (c .if2 .taken)
 
-mul-size : tie.Need-mul-size
-mul-size c = search needs
+obu-at-requires : tie.Need-obu-at-requires
+obu-at-requires c κs = search needs
 
-add-size : tie.Need-add-size
-add-size c = search needs
-
-mul-size-2 : tie.Need-mul-size-2
-mul-size-2 c = search needs
-
-shared-slice-read-size : tie.Need-shared-slice-read-size
-shared-slice-read-size c = search needs
-
-shared-slice-read-first-header : tie.Need-shared-slice-read-first-header
-shared-slice-read-first-header c = search needs
-
-cast-first-header : tie.Need-cast-first-header
-cast-first-header c =
-    let a = c .before .before .before .before .before .before .before .before .args in
-    omega (arith, and-le-r (getD (a .obus .now) 0 0) 255)
+obu-at-requires-2 : tie.Need-obu-at-requires-2
+obu-at-requires-2 c κs = search needs
 
 rule-requires : tie.Need-rule-requires
 rule-requires c κs = search needs
 
 returns-3 : tie.Need-returns-3
 returns-3 c =
-    let a = c .before .before .before .before .before .before .before .before .before .args in
-    let l = c .before .before .before .before in
-    let there : l .last-of .result < length (a .obus .now) / obuNumbers = c .before .before .before .if2 .left in
+    let e = last (c .before) in
+    let l = e .before in
+    let a = start l .args in
     answers (obusIn (a .obus .now)) (packetsIn (a .plan .now)) (a .k) (omega (arith, packets-count (a .plan .now))) _ _ _
-    (obus-count (a .obus .now)) (l .before .packet-at .ensures) (l .last-of .ensures) there _
-    (λ s. c .rule .ensures (obusIn (a .obus .now)) (size-in (a .obus .now) (l .last-of .result) there ∙ s)
-    (low-type (getD (a .obus .now) 0 0) ∙ ap typeOf (first-in (a .obus .now) (l .last-of .result) there)))
+    (sym (obus-count (a .obus .now))) (l .before .packet-at .ensures) (l .last-of .ensures) (e .if2 .left) _
+    (λ s. c .rule .ensures (obusIn (a .obus .now)) (ap (λ (o : Obu). o .size) (c .before .before .obu-at .ensures) ∙ s)
+    (ap (λ (o : Obu). o .header) (c .before .obu-at2 .ensures)))
 
 pub get-aggregation-header-spec : {M : Type 1} → statement M
 get-aggregation-header-spec =
@@ -83,11 +61,7 @@ get-aggregation-header-spec =
     packet-at-requires
     last-of-requires
     returns-2
-    mul-size
-    add-size
-    mul-size-2
-    shared-slice-read-size
-    shared-slice-read-first-header
-    cast-first-header
+    obu-at-requires
+    obu-at-requires-2
     rule-requires
     returns-3)

@@ -40,17 +40,19 @@ use denote.Triple.Spec.{Meets, tripleOf}
 use denote.Triple.Table.{entered, cited}
 use denote.Triple.Walked.{says, Stays, stay-none, stay-none-slice, walkOf, goes-none, goes-none-slice, Walks, ends-at, walked, walk-meets}
 use denote.Exit.{yes}
-use Rattle.base.specs.declared.Refusal.the-variants.{NoSuchPacket}
+use Rattle.base.specs.declared.Refusal.the-variants.{NoUsablePacket}
 use Rattle.base.proofs.Refusal as B
 use Rattle.base.proofs.Refusal.Laws as B′
+use Rattle.obu.specs.Records.{noObu}
 use Rattle.obu.specs.declared.Obu.{Obu}
 use Rattle.obu.proofs.Obu as O
 use Rattle.obu.proofs.Obu.Laws as O′
+use Rattle.packetizer.specs.Records.{noPacket}
 use Rattle.packetizer.specs.declared.PacketMetadata.{PacketMetadata}
 use Rattle.packetizer.proofs.PacketMetadata as P
 use Rattle.packetizer.proofs.PacketMetadata.Laws as P′
 use Rattle.walk.proofs.Elem.{var, member, puts, rec-open, rec-shut, calls-plain, envAt, goes-on, empty, holds, upFrom, inOrder, free-all}
-use Rattle.aggregation.specs.Header.{noObu, noPacket, headerOf}
+use Rattle.aggregation.specs.Header.{headerOf}
 use Rattle.aggregation.specs.Paper.{paper}
 use Rattle.aggregation.specs.declared.HeaderAnswer.{HeaderAnswer}
 use Rattle.aggregation.specs.declared.HeaderAnswer.the-variants.{Refused}
@@ -82,13 +84,13 @@ some-there i n l = omega arith
 
 -- ---- the machine values
 abbrev no-vals : List Val
-no-vals = EL.vals B.the-type B′.the-laws NoSuchPacket
+no-vals = EL.vals B.the-type B′.the-laws NoUsablePacket
 
-no-is : Is B.the-row NoSuchPacket no-vals
-no-is = EL.owes B.the-type B′.the-laws NoSuchPacket tt
+no-is : Is B.the-row NoUsablePacket no-vals
+no-is = EL.owes B.the-type B′.the-laws NoUsablePacket tt
 
 abbrev none : HeaderAnswer
-none = Refused NoSuchPacket
+none = Refused NoUsablePacket
 
 abbrev none-vals : List Val
 none-vals = EL.vals R.the-type R′.the-laws none
@@ -139,7 +141,7 @@ module _ {M : Type 1} (𝓤 : URA M) (H : Heap 𝓤) (A : Atoms 𝓤) (W : Given
   packet-typed = LL.lawful P.the-type P′.the-laws 𝓤 H A W .typed
 
   no-typed : Typed (B.the-row .mir) no-vals
-  no-typed = EL.lawful B.the-type B′.the-laws 𝓤 H A W tt .typed NoSuchPacket no-vals no-is
+  no-typed = EL.lawful B.the-type B′.the-laws 𝓤 H A W tt .typed NoUsablePacket no-vals no-is
 
   abbrev E : List ℕ → Env 𝓤 H
   E = envAt 𝓤 H (code.function .locals)
@@ -173,7 +175,7 @@ module _ {M : Type 1} (𝓤 : URA M) (H : Heap 𝓤) (A : Atoms 𝓤) (W : Given
         puts ! (of-opd ! (member ! 8 1 refl (sub ! 1 refl (whole !)))) (init ! 16 refl (tt, record { fits = gp .0 })) $
         puts ! (bin ! (var ! 16 refl) (var ! 10 refl) tt) (init ! 18 refl (tt, tt)) $
         first ! $ branches ! (var ! 18 refl)
-        -- _8 = NoSuchPacket; _0 = Refused(_8); return
+        -- _8 = NoUsablePacket; _0 = Refused(_8); return
         (λ big.
         puts ! (agg ! (and-then ! (lit ! tt) (no-more !))) (init ! 20 refl (no-typed .0)) $
         puts ! (agg ! (and-then ! (lit ! tt) (and-then ! (var ! 20 refl) (no-more !)))) (init ! 4 refl (answer-typed none none-vals none-is .0)) $
@@ -202,7 +204,7 @@ module _ {M : Type 1} (𝓤 : URA M) (H : Heap 𝓤) (A : Atoms 𝓤) (W : Given
         puts ! (of-opd ! (member ! 6 1 refl (sub ! 1 refl (whole !)))) (store ! 16 refl (tt, record { fits = go .0 })) $
         puts ! (bin ! (var ! 16 refl) (var ! 14 refl) tt) (store ! 18 refl (tt, tt)) $
         first ! $ branches ! (var ! 18 refl)
-        -- _11 = NoSuchPacket; _0 = Refused(_11); return
+        -- _11 = NoUsablePacket; _0 = Refused(_11); return
         (λ big.
         puts ! (agg ! (and-then ! (lit ! tt) (no-more !))) (init ! 26 refl (no-typed .0)) $
         puts ! (agg ! (and-then ! (lit ! tt) (and-then ! (var ! 26 refl) (no-more !)))) (init ! 4 refl (answer-typed none none-vals none-is .0)) $

@@ -1,6 +1,7 @@
-use mathlib.Core.Path.{sym, _∙_}
+use mathlib.Core.Path.{sym, ap, _∙_}
 use borrow.Author.Needs.{needs}
 use borrow.Author.Tests.{eq-eqb, ne-eqb}
+use Rattle.obu.specs.Header.{typeOf}
 use Rattle.aggregation.specs.Header.{nOf}
 use Rattle.aggregation.proofs.n_bit.Statement.{statement}
 use Rattle.aggregation.proofs.n_bit.Tie as tie
@@ -11,12 +12,12 @@ obu-type-requires c κs = search needs
 returns : tie.Need-returns
 unfolding nOf
 returns c = λ obus e.
-    rw (eq-eqb _ _ (c .before .before .if1 .taken), eq-eqb _ 1 (sym e ∙ sym (c .before .obu-type .ensures) ∙ c .if2 .taken))
+    rw (eq-eqb _ _ (c .before .before .if1 .taken), eq-eqb _ 1 (ap typeOf (sym e) ∙ sym (c .before .obu-type .ensures) ∙ c .if2 .taken))
 
 returns-2 : tie.Need-returns-2
 unfolding nOf
 returns-2 c = λ obus e.
-    rw (eq-eqb _ _ (c .before .before .if1 .taken), ne-eqb _ 1 (λ t. c .if2 .left (c .before .obu-type .ensures ∙ e ∙ t)))
+    rw (eq-eqb _ _ (c .before .before .if1 .taken), ne-eqb _ 1 (λ t. c .if2 .left (c .before .obu-type .ensures ∙ ap typeOf e ∙ t)))
 
 returns-3 : tie.Need-returns-3
 unfolding nOf

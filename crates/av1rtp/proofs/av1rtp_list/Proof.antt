@@ -1,6 +1,6 @@
 use mathlib.Core.Path.{sym, ap, _∙_}
 use Rattle.obu.specs.Paper.{paperList}
-use Rattle.av1rtp.specs.Calls.{one}
+use Rattle.av1rtp.specs.Calls.{listedWords}
 use Rattle.av1rtp.proofs.Words.{gave, declined}
 use borrow.Author.Needs.{needs}
 use Rattle.av1rtp.proofs.av1rtp_list.Statement.{statement}
@@ -28,7 +28,7 @@ returns : tie.Need-returns
 returns c =
     let s = c .before .before .before in
     let p = s .before .before .before .before .parse-obus .ensures in
-    let t = gave one (sym (ap paperList (s .listed .given .1)) ∙ p .0) (c .give .ensures) in
+    let t = gave listedWords (sym (ap paperList (s .listed .given .1)) ∙ p .0) (c .give .ensures) in
     (t .0, t .1, p .1)
 
 same-length-2 : tie.Need-same-length-2
@@ -38,7 +38,7 @@ returns-2 : tie.Need-returns-2
 returns-2 c =
     let s = c .before .before .before in
     let p = s .before .before .before .before .parse-obus .ensures in
-    let t = declined one (sym (ap paperList (s .refusal .given .1)) ∙ p .0) (c .refuse .ensures) in
+    let t = declined listedWords (sym (ap paperList (s .refusal .given .1)) ∙ p .0) (c .refuse .ensures) in
     (t .0, t .1, p .1)
 
 pub av1rtp-list-spec : {M : Type 1} → statement M

@@ -1,4 +1,5 @@
 use mathlib.Core.Path.{sym, ap, _∙_}
+use Rattle.payloader.specs.Call.{After}
 use Rattle.payloader.specs.Paper.{paper}
 use Rattle.av1rtp.specs.Calls.{payloadsWords}
 use Rattle.av1rtp.proofs.Words.{gave, declined}
@@ -34,8 +35,14 @@ returns : tie.Need-returns
 returns c =
     let s = c .before .before .before in
     let p = s .before .before .before .before .before .before .before .before .payload .ensures in
-    let t = gave payloadsWords (sym (ap paper (s .written .given .1)) ∙ p .0) (c .give .ensures) in
-    (t .0, t .1, p .1, p .2, p .3)
+    let t = gave payloadsWords (sym (ap paper (s .written .given .1)) ∙ ap (λ (x : After). x .answer) p) (c .give .ensures) in
+    record {
+      number = t .0;
+      words-are = t .1;
+      obus-are = ap (λ (x : After). x .obus) p;
+      plan-is = ap (λ (x : After). x .plan) p;
+      out-is = ap (λ (x : After). x .out) p;
+    }
 
 same-length-4 : tie.Need-same-length-4
 same-length-4 c = search needs
@@ -50,8 +57,14 @@ returns-2 : tie.Need-returns-2
 returns-2 c =
     let s = c .before .before .before in
     let p = s .before .before .before .before .before .before .before .before .payload .ensures in
-    let t = declined payloadsWords (sym (ap paper (s .refusal .given .1)) ∙ p .0) (c .refuse .ensures) in
-    (t .0, t .1, p .1, p .2, p .3)
+    let t = declined payloadsWords (sym (ap paper (s .refusal .given .1)) ∙ ap (λ (x : After). x .answer) p) (c .refuse .ensures) in
+    record {
+      number = t .0;
+      words-are = t .1;
+      obus-are = ap (λ (x : After). x .obus) p;
+      plan-is = ap (λ (x : After). x .plan) p;
+      out-is = ap (λ (x : After). x .out) p;
+    }
 
 pub av1rtp-payload-spec : {M : Type 1} → statement M
 av1rtp-payload-spec =

@@ -1,4 +1,5 @@
 use mathlib.Core.Path.{sym, ap, _∙_}
+use Rattle.packetizer.specs.Call.{After}
 use Rattle.packetizer.specs.Paper.{paper}
 use Rattle.av1rtp.specs.Calls.{plannedWords}
 use Rattle.av1rtp.proofs.Words.{gave, declined}
@@ -31,8 +32,8 @@ returns : tie.Need-returns
 returns c =
     let s = c .before .before .before in
     let p = s .before .before .before .before .before .before .plan-unit .ensures in
-    let t = gave plannedWords (sym (ap paper (s .planned .given .1)) ∙ p .0) (c .give .ensures) in
-    (t .0, t .1, p .1, p .2)
+    let t = gave plannedWords (sym (ap paper (s .planned .given .1)) ∙ ap (λ (x : After). x .answer) p) (c .give .ensures) in
+    record { number = t .0; words-are = t .1; obus-are = ap (λ (x : After). x .obus) p; plan-is = ap (λ (x : After). x .plan) p }
 
 same-length-3 : tie.Need-same-length-3
 same-length-3 c = search needs
@@ -44,8 +45,8 @@ returns-2 : tie.Need-returns-2
 returns-2 c =
     let s = c .before .before .before in
     let p = s .before .before .before .before .before .before .plan-unit .ensures in
-    let t = declined plannedWords (sym (ap paper (s .refusal .given .1)) ∙ p .0) (c .refuse .ensures) in
-    (t .0, t .1, p .1, p .2)
+    let t = declined plannedWords (sym (ap paper (s .refusal .given .1)) ∙ ap (λ (x : After). x .answer) p) (c .refuse .ensures) in
+    record { number = t .0; words-are = t .1; obus-are = ap (λ (x : After). x .obus) p; plan-is = ap (λ (x : After). x .plan) p }
 
 pub av1rtp-plan-spec : {M : Type 1} → statement M
 av1rtp-plan-spec =

@@ -1,12 +1,36 @@
 use mathlib.Core.Path.{sym, ap, _∙_}
 use Rattle.base.specs.Answers.{Answer}
 use Rattle.receiver.specs.Paper.{paper}
+use Rattle.receiver.specs.Call.{inputs, After, received}
+use Rattle.receiver.specs.declared.State.{State}
 use Rattle.receiver.specs.declared.Received.{Received}
 use Rattle.av1rtp.specs.Calls.{stateAfter, receivedWords}
 use Rattle.av1rtp.proofs.Words.{gave, declined}
 use borrow.Author.Needs.{needs}
 use Rattle.av1rtp.proofs.av1rtp_receive.Statement.{statement}
 use Rattle.av1rtp.proofs.av1rtp_receive.Tie as tie
+
+-- ---- places, each by the one that follows it
+
+abbrev at-start : tie.After-state-in → tie.Start
+at-start c = c .before .before .before .before .before .before .before
+
+abbrev at-receive : tie.After-slice-known4 → tie.After-receive
+at-receive c = c .before .before .before .before
+
+abbrev at-state : tie.After-receive → tie.After-state-in
+at-state c = c .before .before .before
+
+-- the packet is taken, and the state put
+abbrev at-put : tie.After-give → tie.After-put-state
+at-put c = c .before .before
+
+abbrev at-received : tie.After-put-state → tie.After-received
+at-received c = c .before .before .before .before
+
+-- it is refused
+abbrev at-refusal : tie.After-refuse → tie.After-refusal
+at-refusal c = c .before .before .before
 
 element-copy-out-state-in : tie.Need-element-copy-out-state-in
 element-copy-out-state-in c = search needs
@@ -46,11 +70,19 @@ same-length-2 c = search needs
 
 returns : tie.Need-returns
 returns c =
-    let s = c .before .before .before .before .before .before in
-    let p = rw (s .before .before .before .before .before .before .before .before .before .state-in .ensures) at (s .before .before .before .before .before .before .receive .ensures) in
-    let q = sym (ap paper (s .received .given .1)) ∙ p .0 in
+    let s = at-received (at-put c) in
+    let e = at-receive (s .before .before) in
+    let a = at-start (at-state e) .args in
+    let p = e .receive .ensures ∙ ap (λ (x : State). received (inputs x (a .number) (a .payload .now) (a .store .now) (a .out .now))) (at-state e .state-in .ensures) in
+    let q = sym (ap paper (s .received .given .1)) ∙ ap (λ (x : After (Answer Received)). x .answer) p in
     let t = gave receivedWords q (c .give .ensures) in
-    (t .0, t .1, c .before .before .put-state .ensures ∙ ap (λ (x : Answer Received). stateAfter x (s .before .before .before .before .before .before .before .before .before .before .before .before .before .before .before .before .args .state .now)) q, p .1, p .2)
+    record {
+      number-is = t .0;
+      answer-is = t .1;
+      state-is = at-put c .put-state .ensures ∙ ap (λ (x : Answer Received). stateAfter x (a .state .now)) q;
+      store-is = ap (λ (x : After (Answer Received)). x .store) p;
+      output-is = ap (λ (x : After (Answer Received)). x .output) p;
+    }
 
 same-length-3 : tie.Need-same-length-3
 same-length-3 c = search needs
@@ -60,11 +92,19 @@ same-length-4 c = search needs
 
 returns-2 : tie.Need-returns-2
 returns-2 c =
-    let s = c .before .before .before in
-    let p = rw (s .before .before .before .before .before .before .before .before .before .state-in .ensures) at (s .before .before .before .before .before .before .receive .ensures) in
-    let q = sym (ap paper (s .refusal .given .1)) ∙ p .0 in
+    let s = at-refusal c in
+    let e = at-receive (s .before .before) in
+    let a = at-start (at-state e) .args in
+    let p = e .receive .ensures ∙ ap (λ (x : State). received (inputs x (a .number) (a .payload .now) (a .store .now) (a .out .now))) (at-state e .state-in .ensures) in
+    let q = sym (ap paper (s .refusal .given .1)) ∙ ap (λ (x : After (Answer Received)). x .answer) p in
     let t = declined receivedWords q (c .refuse .ensures) in
-    (t .0, t .1, ap (λ (x : Answer Received). stateAfter x (s .before .before .before .before .before .before .before .before .before .before .before .before .before .before .before .before .args .state .now)) q, p .1, p .2)
+    record {
+      number-is = t .0;
+      answer-is = t .1;
+      state-is = ap (λ (x : Answer Received). stateAfter x (a .state .now)) q;
+      store-is = ap (λ (x : After (Answer Received)). x .store) p;
+      output-is = ap (λ (x : After (Answer Received)). x .output) p;
+    }
 
 pub av1rtp-receive-spec : {M : Type 1} → statement M
 av1rtp-receive-spec =

@@ -1,6 +1,6 @@
 use mathlib.Core.Path.{sym, ap, _∙_}
 use Rattle.train.specs.Paper.{paperHead}
-use Rattle.av1rtp.specs.Calls.{one}
+use Rattle.av1rtp.specs.Calls.{headWords}
 use Rattle.av1rtp.proofs.Words.{gave, declined}
 use borrow.Author.Needs.{needs}
 use Rattle.av1rtp.proofs.av1rtp_train_head.Statement.{statement}
@@ -27,12 +27,12 @@ refuse-requires c κs = search needs
 returns : tie.Need-returns
 returns c =
     let s = c .before .before .before .before in
-    gave one (sym (ap paperHead (s .head .given .1)) ∙ s .before .before .read-head .ensures) (c .give .ensures)
+    gave headWords (sym (ap paperHead (s .head .given .1)) ∙ s .before .before .read-head .ensures) (c .give .ensures)
 
 returns-2 : tie.Need-returns-2
 returns-2 c =
     let s = c .before .before .before in
-    declined one (sym (ap paperHead (s .refusal .given .1)) ∙ s .before .before .read-head .ensures) (c .refuse .ensures)
+    declined headWords (sym (ap paperHead (s .refusal .given .1)) ∙ s .before .before .read-head .ensures) (c .refuse .ensures)
 
 pub av1rtp-train-head-spec : {M : Type 1} → statement M
 av1rtp-train-head-spec =

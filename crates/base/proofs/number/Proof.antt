@@ -73,6 +73,57 @@ enum-told-22 c = search needs
 enum-told-23 : tie.Need-enum-told-23
 enum-told-23 c = search needs
 
+enum-told-24 : tie.Need-enum-told-24
+enum-told-24 c = search needs
+
+enum-told-25 : tie.Need-enum-told-25
+enum-told-25 c = search needs
+
+enum-told-26 : tie.Need-enum-told-26
+enum-told-26 c = search needs
+
+enum-told-27 : tie.Need-enum-told-27
+enum-told-27 c = search needs
+
+enum-told-28 : tie.Need-enum-told-28
+enum-told-28 c = search needs
+
+enum-told-29 : tie.Need-enum-told-29
+enum-told-29 c = search needs
+
+enum-told-30 : tie.Need-enum-told-30
+enum-told-30 c = search needs
+
+enum-told-31 : tie.Need-enum-told-31
+enum-told-31 c = search needs
+
+enum-told-32 : tie.Need-enum-told-32
+enum-told-32 c = search needs
+
+enum-told-33 : tie.Need-enum-told-33
+enum-told-33 c = search needs
+
+enum-told-34 : tie.Need-enum-told-34
+enum-told-34 c = search needs
+
+enum-told-35 : tie.Need-enum-told-35
+enum-told-35 c = search needs
+
+enum-told-36 : tie.Need-enum-told-36
+enum-told-36 c = search needs
+
+enum-told-37 : tie.Need-enum-told-37
+enum-told-37 c = search needs
+
+enum-told-38 : tie.Need-enum-told-38
+enum-told-38 c = search needs
+
+enum-told-39 : tie.Need-enum-told-39
+enum-told-39 c = search needs
+
+enum-told-40 : tie.Need-enum-told-40
+enum-told-40 c = search needs
+
 returns : tie.Need-returns
 returns c = sym (ap numberOf (c .enum-told .given .1))
 
@@ -142,6 +193,57 @@ returns-22 c = sym (ap numberOf (c .enum-told22 .given .1))
 returns-23 : tie.Need-returns-23
 returns-23 c = sym (ap numberOf (c .enum-told23 .given .1))
 
+returns-24 : tie.Need-returns-24
+returns-24 c = sym (ap numberOf (c .enum-told24 .given .1))
+
+returns-25 : tie.Need-returns-25
+returns-25 c = sym (ap numberOf (c .enum-told25 .given .1))
+
+returns-26 : tie.Need-returns-26
+returns-26 c = sym (ap numberOf (c .enum-told26 .given .1))
+
+returns-27 : tie.Need-returns-27
+returns-27 c = sym (ap numberOf (c .enum-told27 .given .1))
+
+returns-28 : tie.Need-returns-28
+returns-28 c = sym (ap numberOf (c .enum-told28 .given .1))
+
+returns-29 : tie.Need-returns-29
+returns-29 c = sym (ap numberOf (c .enum-told29 .given .1))
+
+returns-30 : tie.Need-returns-30
+returns-30 c = sym (ap numberOf (c .enum-told30 .given .1))
+
+returns-31 : tie.Need-returns-31
+returns-31 c = sym (ap numberOf (c .enum-told31 .given .1))
+
+returns-32 : tie.Need-returns-32
+returns-32 c = sym (ap numberOf (c .enum-told32 .given .1))
+
+returns-33 : tie.Need-returns-33
+returns-33 c = sym (ap numberOf (c .enum-told33 .given .1))
+
+returns-34 : tie.Need-returns-34
+returns-34 c = sym (ap numberOf (c .enum-told34 .given .1))
+
+returns-35 : tie.Need-returns-35
+returns-35 c = sym (ap numberOf (c .enum-told35 .given .1))
+
+returns-36 : tie.Need-returns-36
+returns-36 c = sym (ap numberOf (c .enum-told36 .given .1))
+
+returns-37 : tie.Need-returns-37
+returns-37 c = sym (ap numberOf (c .enum-told37 .given .1))
+
+returns-38 : tie.Need-returns-38
+returns-38 c = sym (ap numberOf (c .enum-told38 .given .1))
+
+returns-39 : tie.Need-returns-39
+returns-39 c = sym (ap numberOf (c .enum-told39 .given .1))
+
+returns-40 : tie.Need-returns-40
+returns-40 c = sym (ap numberOf (c .enum-told40 .given .1))
+
 pub number-spec : {M : Type 1} → statement M
 number-spec =
     tie.close
@@ -169,6 +271,23 @@ number-spec =
     enum-told-21
     enum-told-22
     enum-told-23
+    enum-told-24
+    enum-told-25
+    enum-told-26
+    enum-told-27
+    enum-told-28
+    enum-told-29
+    enum-told-30
+    enum-told-31
+    enum-told-32
+    enum-told-33
+    enum-told-34
+    enum-told-35
+    enum-told-36
+    enum-told-37
+    enum-told-38
+    enum-told-39
+    enum-told-40
     returns
     returns-2
     returns-3
@@ -191,4 +310,21 @@ number-spec =
     returns-20
     returns-21
     returns-22
-    returns-23)
+    returns-23
+    returns-24
+    returns-25
+    returns-26
+    returns-27
+    returns-28
+    returns-29
+    returns-30
+    returns-31
+    returns-32
+    returns-33
+    returns-34
+    returns-35
+    returns-36
+    returns-37
+    returns-38
+    returns-39
+    returns-40)

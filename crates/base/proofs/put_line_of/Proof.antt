@@ -1,21 +1,20 @@
-use mathlib.Core.Path.{refl}
 use Prim.Native.Nat.{_-_}
 use native.Mathlib.Omega.{arith}
 use borrow.Author.Needs.{needs}
 use mathlib.Core.Logic.{⊎-elim}
 use lib.ListN.{length}
-use Rattle.base.proofs.Words.{Storing, stored, line-passed, byte-stored, byte-passed}
+use Rattle.base.proofs.Words.{Looking, looking-first, stored, line-passed, byte-stored, byte-passed}
 use Rattle.base.proofs.put_line_of.Statement.{statement}
 use Rattle.base.proofs.put_line_of.Tie as tie
 
 abbrev Inv-loop : tie.InvT-loop
-Inv-loop text n out₀ at line₀ to₀ i₀ out line to i = Storing n text out₀ at i line to out
+Inv-loop text n out₀ at line₀ to₀ i₀ out line to i = Looking n text out₀ at i line to out
 
 abbrev μ-loop : tie.MeasureT-loop
 μ-loop text n out₀ at line₀ to₀ i₀ out line to i = length text - i
 
 loop-holds : tie.Need-loop-holds Inv-loop μ-loop
-loop-holds c = record { looked = omega arith; line-within = omega arith; to-within = omega arith; same = refl; ends = refl; rest = refl }
+loop-holds c = looking-first _ _ _ _
 
 shared-slice-read-b : tie.Need-shared-slice-read-b Inv-loop μ-loop
 shared-slice-read-b c = search needs

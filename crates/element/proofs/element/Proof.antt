@@ -12,16 +12,32 @@ use borrow.Author.Needs.{needs}
 use Rattle.element.proofs.element.Statement.{statement}
 use Rattle.element.proofs.element.Tie as tie
 
--- the part that was kept is element k, and lies in the payload
-kept : (c : tie.After-struct-known) → c .before .before .before .all .given .0 .0 .kept ≡ elementOf (c .before .before .before .before .before .before .before .args .payload .now) (c .before .before .before .before .before .before .before .args .k)
-kept c =
-    walked-kept (c .before .before .before .before .before .before .before .args .k) (payloadElements (c .before .before .before .before .before .before .before .args .payload .now)) (c .before .before .before .all .given .0 .0)
-    (sym (ap paperWalk (c .before .before .before .all .given .1)) ∙ c .before .before .before .before .before .walk-elements .ensures)
+-- ---- places, each by the one that follows it
 
-inside : (c : tie.After-struct-known) → c .before .before .before .all .given .0 .0 .kept .start + c .before .before .before .all .given .0 .0 .kept .length ≤ length (c .before .before .before .before .before .before .before .args .payload .now)
+abbrev at-start : tie.After-walk-elements → tie.Start
+at-start c = c .before .before
+
+abbrev at-all : tie.After-struct-known → tie.After-all
+at-all c = c .before .before .before
+
+abbrev at-walk : tie.After-all → tie.After-walk-elements
+at-walk c = c .before .before
+
+-- the part that was kept is element k, and lies in the payload
+kept : (c : tie.After-struct-known) →
+    let a = at-start (at-walk (at-all c)) .args in
+    at-all c .all .given .0 .0 .kept ≡ elementOf (a .payload .now) (a .k)
+kept c =
+    let w = at-walk (at-all c) in
+    let a = at-start w .args in
+    walked-kept (a .k) (payloadElements (a .payload .now)) (sym (ap paperWalk (at-all c .all .given .1)) ∙ w .walk-elements .ensures)
+
+inside : (c : tie.After-struct-known) →
+    let p = at-all c .all .given .0 .0 .kept in
+    p .start + p .length ≤ length (at-start (at-walk (at-all c)) .args .payload .now)
 inside c =
-    subst (λ (p : Part). p .start + p .length ≤ length (c .before .before .before .before .before .before .before .args .payload .now)) (sym (kept c))
-    (chosen-in (c .before .before .before .before .before .before .before .args .payload .now) (c .before .before .before .before .before .before .before .args .k))
+    let a = at-start (at-walk (at-all c)) .args in
+    subst (λ (p : Part). p .start + p .length ≤ length (a .payload .now)) (sym (kept c)) (chosen-in (a .payload .now) (a .k))
 
 walk-elements-requires : tie.Need-walk-elements-requires
 walk-elements-requires c κs = search needs
@@ -55,15 +71,18 @@ part-result-end-2 c = search needs
 
 returns : tie.Need-returns
 returns c =
-    let a = c .before .before .before .before .before .before .before .before .args in
-    let p = c .before .before .before .before .all .given .0 .0 .kept in
-    let e : p .start + p .length - p .start ≡ p .length = omega arith in
-    (ap (λ (n : ℕ). take n (drop (p .start) (a .payload .now))) e ∙ ap (bytesOf (a .payload .now)) (kept (c .before)), ap (λ (q : Part). placeAt (ptr (a .payload)) (q .start)) (kept (c .before)))
+    let a = at-start (at-walk (at-all (c .before))) .args in
+    let p = at-all (c .before) .all .given .0 .0 .kept in
+    let e : p .start + p .length - p .start ≡ p .length = omega arith in (
+      ap (λ (n : ℕ). take n (drop (p .start) (a .payload .now))) e ∙ ap (bytesOf (a .payload .now)) (kept (c .before)),
+      ap (λ (q : Part). placeAt (ptr (a .payload)) (q .start)) (kept (c .before)),
+    )
 
 returns-2 : tie.Need-returns-2
 returns-2 c =
-    let a = c .before .before .before .before .before .args in
-    let e = walked-none (a .k) (payloadElements (a .payload .now)) _ _ (sym (ap paperWalk (c .before .enum-told .given .1)) ∙ c .before .before .before .walk-elements .ensures) in
+    let w = c .before .before .before in
+    let a = at-start w .args in
+    let e = walked-none (a .k) (payloadElements (a .payload .now)) (sym (ap paperWalk (c .before .enum-told .given .1)) ∙ w .walk-elements .ensures) in
     (ap (bytesOf (a .payload .now)) e, ap (λ (q : Part). placeAt (ptr (a .payload)) (q .start)) e)
 
 pub element-spec : {M : Type 1} → statement M

@@ -4,6 +4,9 @@ use Rattle.handing.proofs.Across.{copied-both, copied-last}
 use Rattle.handing.proofs.copy_across.Statement.{statement}
 use Rattle.handing.proofs.copy_across.Tie as tie
 
+abbrev at-start : tie.Then1 → tie.Start
+at-start c = c .before .before .before .before
+
 sub-n : tie.Need-sub-n
 sub-n c = search needs
 
@@ -30,18 +33,23 @@ same-length c = search needs
 
 returns : tie.Need-returns
 returns c =
-    let a = c .before .before .before .before .before .before .before .before .before .before .before .before .args in
-    let q = c .before .before .before .before .before .before .before .before .before .before .before .before .pre in
-    copied-both (a .store .now) (a .payload .now) (a .f .kept) (a .f .start) (a .f .size) (q .0) (q .1) (a .to .now) (a .at) (a .skip) _ _ (c .before .before .before .before .before .before .before .before .if1 .taken) (omega arith) (c .before .before .before .before .before .before .copy .ensures) (c .before .before .copy2 .ensures)
+    let two = c .before .before in
+    let one = two .before .before .before .before in
+    let s = at-start (one .before .before) in
+    let a = s .args in
+    copied-both (a .store .now) (a .payload .now) (a .f .kept) (a .f .start) (a .f .size) (s .pre .0 .stored) (s .pre .0 .lies) (a .to .now) (a .at) (a .skip) _ _
+    (one .before .before .if1 .taken) (omega arith) (one .copy .ensures) (two .copy2 .ensures)
 
 same-length-2 : tie.Need-same-length-2
 same-length-2 c = search needs
 
 returns-2 : tie.Need-returns-2
 returns-2 c =
-    let a = c .before .before .before .before .before .before .before .before .args in
-    let q = c .before .before .before .before .before .before .before .before .pre in
-    copied-last (a .store .now) (a .payload .now) (a .f .kept) (a .f .start) (a .f .size) (q .0) (q .1) (a .to .now) (a .at) (a .skip) _ (c .before .before .before .before .if1 .left) (q .2) (c .before .before .copy3 .ensures)
+    let e = c .before .before .before .before in
+    let s = e .before .before .before .before in
+    let a = s .args in
+    copied-last (a .store .now) (a .payload .now) (a .f .kept) (a .f .start) (a .f .size) (s .pre .0 .stored) (s .pre .0 .lies) (a .to .now) (a .at) (a .skip) _
+    (e .if1 .left) (s .pre .1) (c .before .before .copy3 .ensures)
 
 pub copy-across-spec : {M : Type 1} → statement M
 copy-across-spec =

@@ -10,7 +10,7 @@ use Rattle.handing.proofs.count_out.Tie as tie
 returns : tie.Need-returns
 returns c =
     let p = c .before .before .before .before .pre in
-    handing-end _ _ _ _ _ false _ _ _ _ _ _ (handing-first _ _ _ _ _ _ false _ (p .1) (p .2) (p .4) (p .5)) (p .0) (c .if1 .taken)
+    handing-end (handing-first p false _) (p .whole) (c .if1 .taken)
 
 hand-out-requires : tie.Need-hand-out-requires
 hand-out-requires c κs = (c .before .before .before .before .before .pre, λ w. let z : _≡_ {A = ℕ} 0 1 = cc in absurd (omega arith))

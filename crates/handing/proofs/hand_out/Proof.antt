@@ -10,69 +10,120 @@ use Rattle.obu.specs.Wire.{wire}
 use Rattle.element.specs.Header.{wOf}
 use Rattle.element.specs.Elements.{elementAt, hasField, nowhere}
 use Rattle.element.specs.Paper.{paperRead}
-use Rattle.handing.specs.Inside.{across, partsOf}
+use Rattle.element.specs.declared.Part.{Part}
+use Rattle.handing.specs.Inside.{across, handedOf, partsOf}
 use Rattle.handing.specs.Paper.{paperHanded}
+use Rattle.handing.specs.declared.Handed.{Handed}
 use Rattle.handing.proofs.Cursors.{payload-some, payload-small, cursor-inside, read-at}
 use Rattle.handing.proofs.Turns.{Handing, handing-first, handing-end, handing-part, handing-size, handing-most, handing-room, handing-broken, handing-next, counted-given, counted-refused}
 use Rattle.handing.proofs.hand_out.Statement.{statement}
 use Rattle.handing.proofs.hand_out.Tie as tie
 
 abbrev Inv-loop : tie.InvT-loop
-Inv-loop payload cursor from to store joined out₀ write w at₀ i₀ kept₀ bytes₀ out at i kept bytes = Handing payload store from to joined write out₀ at i kept bytes out
+Inv-loop payload cursor from to store joined out₀ write w at₀ i₀ kept₀ sum₀ out at i kept sum = Handing payload store from to joined write out₀ at i kept sum out
 
 abbrev μ-loop : tie.MeasureT-loop
-μ-loop payload cursor from to store joined out₀ write w at₀ i₀ kept₀ bytes₀ out at i kept bytes = to - i
+μ-loop payload cursor from to store joined out₀ write w at₀ i₀ kept₀ sum₀ out at i kept sum = to - i
 
--- the bytes that went out for this element
-bytesOut : (c : tie.After-known-told4 Inv-loop μ-loop) → (b : List ℕ)
-    × (wire (across (c .before .before .before .before .before .before .before .before .before .before .before .before .before .before .before .before .before .before .before .args .store .now) (c .before .before .before .before .before .before .before .before .before .before .before .before .before .loop .kept) (c .before .before .before .before .before .before .before .before .before .before .before .before .before .before .before .before .before .before .before .args .payload .now) (c .before .before .before .before .before .before .before .before .part .given .0 .0 .start) (c .before .before .before .before .before .before .before .before .part .given .0 .0 .length)) ≡ given b)
-    × (c .before .n .given .0 .0 ≡ length b)
-bytesOut c = counted-given _ _ (sym (ap paperHanded (c .before .n .given .1)) ∙ c .before .before .before .before .before .finish-obu .ensures .0)
+-- ---- places, each by the one that follows it
+
+abbrev Place-start : Type 0
+Place-start = tie.Start Inv-loop μ-loop
+
+abbrev at-start : tie.At-loop Inv-loop μ-loop → Place-start
+at-start c = c .before .before .before .before .before .before
+
+-- in the loop: the element at the cursor is read
+abbrev at-turn : tie.After-read-element Inv-loop μ-loop → tie.In-loop Inv-loop μ-loop
+at-turn c = c .before .before
+
+abbrev at-read : tie.After-known-told2 Inv-loop μ-loop → tie.After-read-element Inv-loop μ-loop
+at-read c = c .before .before .before
+
+abbrev at-unread : tie.After-known-told Inv-loop μ-loop → tie.After-read-element Inv-loop μ-loop
+at-unread c = c .before .before .before
+
+-- its OBU is finished: refused, or counted
+abbrev at-part : tie.After-finish-obu Inv-loop μ-loop → tie.After-known-told2 Inv-loop μ-loop
+at-part c = c .before .before
+
+abbrev at-finish : tie.After-slice-known2 Inv-loop μ-loop → tie.After-finish-obu Inv-loop μ-loop
+at-finish c = c .before .before
+
+abbrev at-broken : tie.After-known-told3 Inv-loop μ-loop → tie.After-finish-obu Inv-loop μ-loop
+at-broken c = at-finish (c .before .before .before)
+
+abbrev at-counted : tie.After-known-told4 Inv-loop μ-loop → tie.After-finish-obu Inv-loop μ-loop
+at-counted c = at-finish (c .before .before .before)
+
+-- ---- what they say
+
+abbrev turn : tie.After-known-told2 Inv-loop μ-loop → tie.In-loop Inv-loop μ-loop
+turn c = at-turn (at-read c)
+
+abbrev start : tie.In-loop Inv-loop μ-loop → Place-start
+start c = at-start (c .before)
+
+abbrev part : tie.After-known-told2 Inv-loop μ-loop → Part
+part c = c .before .part .given .0 .0
 
 -- there is an element i, and it is what stands at the cursor
-some : (c : tie.In-loop Inv-loop μ-loop) → c .before .loop .i < length (partsOf (c .before .before .before .before .before .before .before .args .payload .now))
-some c = omega (arith, c .loop-test .taken, c .before .before .before .before .before .before .before .pre .0 .3)
+some : (c : tie.In-loop Inv-loop μ-loop) → c .before .loop .i < length (partsOf (start c .args .payload .now))
+some c = omega (arith, c .loop-test .taken, start c .pre .0 .to-in)
 
-seen : (c : tie.After-read-element Inv-loop μ-loop) → paperRead (c .read-element .result) ≡ given (getD (partsOf (c .before .before .before .before .before .before .before .before .before .args .payload .now)) (c .before .before .before .loop .i) nowhere)
+seen : (c : tie.After-read-element Inv-loop μ-loop)
+    → paperRead (c .read-element .result) ≡ given (getD (partsOf (start (at-turn c) .args .payload .now)) (at-turn c .before .loop .i) nowhere)
 seen c =
-    let l = c .before .before .before .before .before .before .before .before .before .args .payload .now in
-    let v = c .before .before .before .loop in
+    let t = at-turn c in
+    let l = start t .args .payload .now in
+    let v = t .before .loop in
     c .read-element .ensures
-    ∙ ap (λ (t : Bool). elementAt t (v .at) (drop (v .at) l)) (c .before .has-field .ensures ∙ ap (λ (w : ℕ). hasField w (v .i)) (c .before .before .before .before .header-w .ensures))
+    ∙ ap (λ (t : Bool). elementAt t (v .at) (drop (v .at) l)) (c .before .has-field .ensures ∙ ap (λ (w : ℕ). hasField w (v .i)) (t .before .before .header-w .ensures))
     ∙ ap (λ (n : ℕ). elementAt (hasField (wOf (getD l 0 0)) (v .i)) n (drop n l)) (v .inv .cursor)
-    ∙ read-at l (partsOf l) (c .before .before .before .before .before .before .before .before .before .pre .0 .0) (v .i) (some (c .before .before))
+    ∙ read-at l (partsOf l) (start t .pre .0 .whole) (v .i) (some t)
 
-here : (c : tie.After-known-told2 Inv-loop μ-loop) → c .before .part .given .0 .0 ≡ getD (partsOf (c .before .before .before .before .before .before .before .before .before .before .before .before .args .payload .now)) (c .before .before .before .before .before .before .loop .i) nowhere
+here : (c : tie.After-known-told2 Inv-loop μ-loop) → part c ≡ getD (partsOf (start (turn c) .args .payload .now)) (turn c .before .loop .i) nowhere
 here c =
-    let e : given (c .before .part .given .0 .0) ≡ given (getD (partsOf (c .before .before .before .before .before .before .before .before .before .before .before .before .args .payload .now)) (c .before .before .before .before .before .before .loop .i) nowhere) = sym (ap paperRead (c .before .part .given .1)) ∙ seen (c .before .before .before) in
+    let e : given (part c) ≡ given (getD (partsOf (start (turn c) .args .payload .now)) (turn c .before .loop .i) nowhere) = sym (ap paperRead (c .before .part .given .1)) ∙ seen (at-read c) in
     cc
 
+-- the OBU that it finishes, and the bytes that went out for it
+abbrev obu : tie.After-known-told2 Inv-loop μ-loop → List ℕ
+obu c = let a = start (turn c) .args in across (a .store .now) (turn c .before .loop .kept) (a .payload .now) (part c .start) (part c .length)
+
+bytesOut : (c : tie.After-known-told4 Inv-loop μ-loop) → (b : List ℕ) × (wire (obu (at-part (at-counted c))) ≡ given b) × (c .before .one .given .0 .0 ≡ handedOf b)
+bytesOut c = counted-given _ (sym (ap paperHanded (c .before .one .given .1)) ∙ at-counted c .finish-obu .ensures .0)
+
+-- ---- the needs
+
 shared-slice-read-header-w : tie.Need-shared-slice-read-header-w Inv-loop μ-loop
-shared-slice-read-header-w c = payload-some (c .before .before .before .before .args .payload .now) (partsOf (c .before .before .before .before .args .payload .now)) (c .before .before .before .before .pre .0 .0)
+shared-slice-read-header-w c = let s = c .before .before .before .before in payload-some (s .args .payload .now) (partsOf (s .args .payload .now)) (s .pre .0 .whole)
 
 header-w-requires : tie.Need-header-w-requires Inv-loop μ-loop
 header-w-requires c κs = search needs
 
 loop-holds : tie.Need-loop-holds Inv-loop μ-loop
-loop-holds c =
-    let p = c .before .before .before .before .before .pre .0 in
-    handing-first _ _ _ _ _ _ _ _ (p .1) (p .2) (p .4) (p .5)
+loop-holds c = handing-first (c .before .before .before .before .before .pre .0) _ _
 
 has-field-requires : tie.Need-has-field-requires Inv-loop μ-loop
 has-field-requires c κs = search needs
 
 read-element-requires : tie.Need-read-element-requires Inv-loop μ-loop
-read-element-requires c κs = rw (c .before .before .loop .inv .cursor) (cursor-inside (c .before .before .before .before .before .before .before .before .args .payload .now) (partsOf (c .before .before .before .before .before .before .before .before .args .payload .now)) (c .before .before .before .before .before .before .before .before .pre .0 .0) (c .before .before .loop .i) (c .before .before .loop .inv .within))
+read-element-requires c κs =
+    let l = c .before .before in
+    let s = at-start l in
+    rw (l .loop .inv .cursor) (cursor-inside (s .args .payload .now) (partsOf (s .args .payload .now)) (s .pre .0 .whole) (l .loop .i) (l .loop .inv .within))
 
 enum-known-refusal : tie.Need-enum-known-refusal Inv-loop μ-loop
 enum-known-refusal c = search needs
 
 same-length : tie.Need-same-length Inv-loop μ-loop
-same-length c = c .before .before .before .before .before .before .loop .inv .same
+same-length c = at-turn (at-unread c) .before .loop .inv .same
 
 returns : tie.Need-returns Inv-loop μ-loop
 returns c =
-    let e : refused _ _ ≡ given (getD (partsOf (c .before .before .before .before .before .before .before .before .before .before .before .before .args .payload .now)) (c .before .before .before .before .before .before .loop .i) nowhere) = sym (ap paperRead (c .before .refusal .given .1)) ∙ seen (c .before .before .before) in
+    let t = at-turn (at-unread c) in
+    let e : refused _ _ ≡ given (getD (partsOf (start t .args .payload .now)) (t .before .loop .i) nowhere) = sym (ap paperRead (c .before .refusal .given .1)) ∙ seen (at-unread c) in
     let z : _≡_ {A = ℕ} 0 1 = cc in
     absurd (omega arith)
 
@@ -81,49 +132,64 @@ enum-known-part c = search needs
 
 finish-obu-requires : tie.Need-finish-obu-requires Inv-loop μ-loop
 finish-obu-requires c κs =
-    let l = handing-part _ _ _ _ _ _ _ _ _ _ _ _ (c .before .before .before .before .before .before .before .loop .inv) (c .before .before .before .before .before .before .before .before .before .before .before .before .before .pre .0 .0) (c .before .before .part .given .0 .0) (here (c .before)) (c .before .before .before .before .before .before .loop-test .taken) (some (c .before .before .before .before .before .before)) in
-    let z = handing-size _ _ _ _ _ _ _ _ _ _ _ _ (c .before .before .before .before .before .before .before .loop .inv) (c .before .before .before .before .before .before .before .before .before .before .before .before .before .pre .0 .0) (c .before .before .part .given .0 .0) (here (c .before)) (c .before .before .before .before .before .before .loop-test .taken) (some (c .before .before .before .before .before .before)) in (
-      (c .before .before .before .before .before .before .before .loop .inv .stored, omega (arith, l), l .some, omega (arith, z)),
-      handing-room _ _ _ _ _ _ _ _ _ _ _ _ (c .before .before .before .before .before .before .before .loop .inv) (c .before .before .before .before .before .before .before .before .before .before .before .before .before .pre .0 .0) (c .before .before .part .given .0 .0) (here (c .before)) (c .before .before .before .before .before .before .loop-test .taken) (some (c .before .before .before .before .before .before)) (c .before .before .before .before .before .before .before .before .before .before .before .before .before .pre .1),
+    let k = c .before in
+    let t = turn k in
+    let v = t .before .loop .inv in
+    let p = start t .pre in
+    let l = handing-part v (p .0 .whole) (here k) (t .loop-test .taken) (some t) in
+    let z = handing-size v (p .0 .whole) (here k) (t .loop-test .taken) (some t) in (
+      record { stored = v .stored; lies = omega (arith, l); some = l .some; small = omega (arith, z) },
+      handing-room v (p .0 .whole) (here k) (t .loop-test .taken) (some t) (p .1),
     )
 
 enum-known-refusal-2 : tie.Need-enum-known-refusal-2 Inv-loop μ-loop
 enum-known-refusal-2 c = search needs
 
 same-length-2 : tie.Need-same-length-2 Inv-loop μ-loop
-same-length-2 c = c .before .before .before .before .before .finish-obu .kept .1 .1 .1 .0 ∙ c .before .before .before .before .before .before .before .before .before .before .before .before .before .loop .inv .same
+same-length-2 c = at-broken c .finish-obu .kept .1 .1 .1 .0 ∙ turn (at-part (at-broken c)) .before .loop .inv .same
 
 returns-2 : tie.Need-returns-2 Inv-loop μ-loop
 returns-2 c =
-    handing-broken _ _ _ _ _ _ _ _ _ _ _ _ (c .before .before .before .before .before .before .before .before .before .before .before .before .before .loop .inv) (c .before .before .before .before .before .before .before .before .before .before .before .before .before .before .before .before .before .before .before .pre .0 .0) (c .before .before .before .before .before .before .before .before .part .given .0 .0) (here (c .before .before .before .before .before .before .before)) (c .before .before .before .before .before .before .before .before .before .before .before .before .loop-test .taken) (some (c .before .before .before .before .before .before .before .before .before .before .before .before)) _ _ (c .before .before .before .before .before .before .before .before .before .before .before .before .before .before .before .before .before .before .before .pre .1)
-    (counted-refused _ _ _ (sym (ap paperHanded (c .before .refusal2 .given .1)) ∙ c .before .before .before .before .before .finish-obu .ensures .0)) _ (c .before .before .before .before .before .finish-obu .ensures .1)
+    let f = at-broken c in
+    let k = at-part f in
+    let t = turn k in
+    let p = start t .pre in
+    handing-broken (t .before .loop .inv) (p .0 .whole) (here k) (t .loop-test .taken) (some t) _ _ (p .1)
+    (counted-refused _ (sym (ap paperHanded (c .before .refusal2 .given .1)) ∙ f .finish-obu .ensures .0)) _ (f .finish-obu .ensures .1)
 
-enum-known-n : tie.Need-enum-known-n Inv-loop μ-loop
-enum-known-n c = search needs
+enum-known-one : tie.Need-enum-known-one Inv-loop μ-loop
+enum-known-one c = search needs
 
-add-bytes : tie.Need-add-bytes Inv-loop μ-loop
-add-bytes c =
+together-requires : tie.Need-together-requires Inv-loop μ-loop
+together-requires c κs =
     let b = bytesOut c in
-    let l = handing-part _ _ _ _ _ _ _ _ _ _ _ _ (c .before .before .before .before .before .before .before .before .before .before .before .before .before .loop .inv) (c .before .before .before .before .before .before .before .before .before .before .before .before .before .before .before .before .before .before .before .pre .0 .0) (c .before .before .before .before .before .before .before .before .part .given .0 .0) (here (c .before .before .before .before .before .before .before)) (c .before .before .before .before .before .before .before .before .before .before .before .before .loop-test .taken) (some (c .before .before .before .before .before .before .before .before .before .before .before .before)) in
-    let m = handing-most _ _ _ _ _ _ _ _ _ _ _ _ (c .before .before .before .before .before .before .before .before .before .before .before .before .before .loop .inv) (c .before .before .before .before .before .before .before .before .before .before .before .before .before .before .before .before .before .before .before .pre .0 .0) (c .before .before .before .before .before .before .before .before .part .given .0 .0) (here (c .before .before .before .before .before .before .before)) (c .before .before .before .before .before .before .before .before .before .before .before .before .loop-test .taken) (some (c .before .before .before .before .before .before .before .before .before .before .before .before)) (b .0) (b .1) in
-    omega (arith, b .2, l, m, c .before .before .before .before .before .before .before .before .before .before .before .before .before .loop .inv .bound, payload-small (c .before .before .before .before .before .before .before .before .before .before .before .before .before .before .before .before .before .before .before .args .payload .now) (partsOf (c .before .before .before .before .before .before .before .before .before .before .before .before .before .before .before .before .before .before .before .args .payload .now)) (c .before .before .before .before .before .before .before .before .before .before .before .before .before .before .before .before .before .before .before .pre .0 .0))
+    let k = at-part (at-counted c) in
+    let t = turn k in
+    let v = t .before .loop .inv in
+    let w = start t .pre .0 .whole in
+    let l = handing-part v w (here k) (t .loop-test .taken) (some t) in
+    let m = handing-most v w (here k) (t .loop-test .taken) (some t) (b .0) (b .1) in
+    omega (arith, ap (λ (h : Handed). h .bytes) (b .2), l, m, v .bound, payload-small (start t .args .payload .now) (partsOf (start t .args .payload .now)) w)
 
 add-i : tie.Need-add-i Inv-loop μ-loop
-add-i c = omega (arith, c .before .before .before .before .before .before .before .before .before .before .before .before .loop-test .taken)
+add-i c = omega (arith, turn (at-part (at-counted (c .before))) .loop-test .taken)
 
 loop-less : tie.Need-loop-less Inv-loop μ-loop
-loop-less c = omega (arith, c .before .before .before .before .before .before .before .before .before .before .before .before .loop-test .taken)
+loop-less c = omega (arith, turn (at-part (at-counted (c .before))) .loop-test .taken)
 
 loop-again : tie.Need-loop-again Inv-loop μ-loop
 loop-again c =
-    let b = bytesOut c in
-    handing-next _ _ _ _ _ _ _ _ _ _ _ _ (c .before .before .before .before .before .before .before .before .before .before .before .before .before .loop .inv) (c .before .before .before .before .before .before .before .before .before .before .before .before .before .before .before .before .before .before .before .pre .0 .0) (c .before .before .before .before .before .before .before .before .part .given .0 .0) (here (c .before .before .before .before .before .before .before)) (c .before .before .before .before .before .before .before .before .before .before .before .before .loop-test .taken) (some (c .before .before .before .before .before .before .before .before .before .before .before .before)) _ (b .0) _ (b .1) (b .2) (c .before .before .before .before .before .finish-obu .kept .1 .1 .1 .0) (c .before .before .before .before .before .finish-obu .ensures .1)
+    let b = bytesOut (c .before) in
+    let f = at-counted (c .before) in
+    let k = at-part f in
+    let t = turn k in
+    handing-next (t .before .loop .inv) (start t .pre .0 .whole) (here k) (t .loop-test .taken) (some t) (b .1) (b .2) (c .together .ensures) (f .finish-obu .kept .1 .1 .1 .0) (f .finish-obu .ensures .1)
 
 same-length-3 : tie.Need-same-length-3 Inv-loop μ-loop
 same-length-3 c = c .before .loop .inv .same
 
 returns-3 : tie.Need-returns-3 Inv-loop μ-loop
-returns-3 c = handing-end _ _ _ _ _ _ _ _ _ _ _ _ (c .before .loop .inv) (c .before .before .before .before .before .before .before .pre .0 .0) (c .loop-test .left)
+returns-3 c = handing-end (c .before .loop .inv) (at-start (c .before) .pre .0 .whole) (c .loop-test .left)
 
 pub hand-out-spec : {M : Type 1} → statement M
 hand-out-spec =
@@ -144,8 +210,8 @@ hand-out-spec =
     enum-known-refusal-2
     same-length-2
     returns-2
-    enum-known-n
-    add-bytes
+    enum-known-one
+    together-requires
     add-i
     loop-less
     loop-again

@@ -26,12 +26,14 @@ whole-obu-requires c κs = search needs
 
 returns : tie.Need-returns
 returns c =
-    let a = c .before .before .before .before .before .before .before .args in
-    let same : across (a .store .now) (a .f .kept) (a .payload .now) (a .f .start) (a .f .size) ≡ take (a .f .start + a .f .size - a .f .start) (drop (a .f .start) (a .payload .now))
-    = across-none (a .store .now) (a .payload .now) (a .f .kept) (a .f .start) (a .f .size) (c .before .before .before .before .before .before .before .pre .0) (c .before .before .before .before .before .before .before .pre .1) (a .f .start + a .f .size) (c .before .before .before .if1 .taken) refl in
-    c .whole-obu .ensures (across (a .store .now) (a .f .kept) (a .payload .now) (a .f .start) (a .f .size))
-    (ap (take headBytes) same)
-    (across-length (a .store .now) (a .payload .now) (a .f .kept) (a .f .start) (a .f .size) (c .before .before .before .before .before .before .before .pre .0) (c .before .before .before .before .before .before .before .pre .1) ∙ omega arith)
+    let e = c .before .before .before in
+    let s = e .before .before .before .before in
+    let a = s .args in
+    let all = across (a .store .now) (a .f .kept) (a .payload .now) (a .f .start) (a .f .size) in
+    let same : all ≡ take (a .f .start + a .f .size - a .f .start) (drop (a .f .start) (a .payload .now)) =
+    across-none (a .store .now) (a .payload .now) (a .f .kept) (a .f .start) (a .f .size) (s .pre .stored) (s .pre .lies) (a .f .start + a .f .size) (e .if1 .taken) refl in
+    c .whole-obu .ensures all (ap (take headBytes) same)
+    (across-length (a .store .now) (a .payload .now) (a .f .kept) (a .f .start) (a .f .size) (s .pre .stored) (s .pre .lies) ∙ omega arith)
 
 judge-across-requires : tie.Need-judge-across-requires
 judge-across-requires c κs = search needs

@@ -1,6 +1,7 @@
 use mathlib.Core.Path.{_≡_, sym, ap, _∙_}
-use Prim.Native.Nat.{_+_}
+use Prim.Native.Nat.{ℕ, _+_}
 use native.Mathlib.Omega.{arith}
+use mathlib.Core.List.{List}
 use lib.ListN.{length, take}
 use borrow.Author.Needs.{needs}
 use Rattle.obu.specs.Front.{headBytes}
@@ -9,17 +10,44 @@ use Rattle.handing.proofs.Across.{head-copied, head-same, across-length
 use Rattle.handing.proofs.judge_across.Statement.{statement}
 use Rattle.handing.proofs.judge_across.Tie as tie
 
--- the bytes that are judged
-first : (c : tie.After-head5) → take (c .before .before .before .before .before .before .before .before .smaller .result + c .before .before .before .before .before .before .before .smaller2 .result) (c .before .before .copy2 .last .0)
-    ≡ across (c .before .before .before .before .before .before .before .before .before .before .before .args .store .now) (c .before .before .before .before .before .before .before .before .smaller .result) (c .before .before .before .before .before .before .before .before .before .before .before .args .payload .now) (c .before .before .before .before .before .before .before .before .before .before .before .args .f .start) (c .before .before .before .before .before .before .before .smaller2 .result)
-first c =
-    let a = c .before .before .before .before .before .before .before .before .before .before .before .args in
-    head-copied (a .store .now) (a .payload .now) (a .f .kept) (a .f .start) (a .f .size) (c .before .before .before .before .before .before .before .before .before .before .before .pre .0) (c .before .before .before .before .before .before .before .before .before .before .before .pre .1) _ _ (c .before .before .before .before .before .before .before .before .smaller .ensures) (c .before .before .before .before .before .before .before .smaller2 .ensures) _ _ _ (c .before .before .before .before .before .copy .ensures) (c .before .before .copy2 .ensures)
+-- ---- places, each by the one that follows it
 
-count : (c : tie.After-head5) → length (take (c .before .before .before .before .before .before .before .before .smaller .result + c .before .before .before .before .before .before .before .smaller2 .result) (c .before .before .copy2 .last .0)) ≡ c .before .before .before .before .before .before .before .before .smaller .result + c .before .before .before .before .before .before .before .smaller2 .result
+abbrev at-start : tie.After-smaller → tie.Start
+at-start c = c .before .before .before
+
+abbrev at-sizes : tie.After-head5 → tie.After-smaller2
+at-sizes c = c .before .before .before .before .before .before .before
+
+abbrev start : tie.After-head5 → tie.Start
+start c = at-start (at-sizes c .before)
+
+-- ---- what they say
+
+-- how many bytes of the store are judged, and how many of the payload
+abbrev a : tie.After-head5 → ℕ
+a c = at-sizes c .before .smaller .result
+
+abbrev b : tie.After-head5 → ℕ
+b c = at-sizes c .smaller2 .result
+
+-- the bytes that are judged
+abbrev judged : tie.After-head5 → List ℕ
+judged c = take (a c + b c) (c .before .before .copy2 .last .0)
+
+first : (c : tie.After-head5) →
+    let s = start c .args in
+    judged c ≡ across (s .store .now) (a c) (s .payload .now) (s .f .start) (b c)
+first c =
+    let s = start c .args in
+    head-copied (s .store .now) (s .payload .now) (s .f .kept) (s .f .start) (s .f .size) (start c .pre .stored) (start c .pre .lies) _ _
+    (at-sizes c .before .smaller .ensures) (at-sizes c .smaller2 .ensures) _ _ _ (c .before .before .before .before .before .copy .ensures) (c .before .before .copy2 .ensures)
+
+count : (c : tie.After-head5) → length (judged c) ≡ a c + b c
 count c =
-    let a = c .before .before .before .before .before .before .before .before .before .before .before .args in
-    ap length (first c) ∙ across-length (a .store .now) (a .payload .now) (c .before .before .before .before .before .before .before .before .smaller .result) (a .f .start) (c .before .before .before .before .before .before .before .smaller2 .result) (omega arith) (omega arith)
+    let s = start c in
+    ap length (first c) ∙ across-length (s .args .store .now) (s .args .payload .now) (a c) (s .args .f .start) (b c) (omega arith) (omega arith)
+
+-- ---- the needs
 
 smaller-requires : tie.Need-smaller-requires
 smaller-requires c κs = search needs
@@ -59,10 +87,13 @@ whole-obu-requires c κs = let n = count c in omega arith
 
 returns : tie.Need-returns
 returns c =
-    let a = c .before .before .before .before .before .before .before .before .before .before .before .before .args in
-    c .whole-obu .ensures (across (a .store .now) (a .f .kept) (a .payload .now) (a .f .start) (a .f .size))
-    (head-same (a .store .now) (a .payload .now) (a .f .kept) (a .f .start) (a .f .size) (c .before .before .before .before .before .before .before .before .before .before .before .before .pre .0) (c .before .before .before .before .before .before .before .before .before .before .before .before .pre .1) _ _ (c .before .before .before .before .before .before .before .before .before .smaller .ensures) (c .before .before .before .before .before .before .before .before .smaller2 .ensures) ∙ ap (take headBytes) (sym (first (c .before))))
-    (across-length (a .store .now) (a .payload .now) (a .f .kept) (a .f .start) (a .f .size) (c .before .before .before .before .before .before .before .before .before .before .before .before .pre .0) (c .before .before .before .before .before .before .before .before .before .before .before .before .pre .1))
+    let h = c .before in
+    let p = start h .pre in
+    let s = start h .args in
+    c .whole-obu .ensures (across (s .store .now) (s .f .kept) (s .payload .now) (s .f .start) (s .f .size))
+    (head-same (s .store .now) (s .payload .now) (s .f .kept) (s .f .start) (s .f .size) (p .stored) (p .lies) _ _ (at-sizes h .before .smaller .ensures) (at-sizes h .smaller2 .ensures)
+    ∙ ap (take headBytes) (sym (first h)))
+    (across-length (s .store .now) (s .payload .now) (s .f .kept) (s .f .start) (s .f .size) (p .stored) (p .lies))
 
 pub judge-across-spec : {M : Type 1} → statement M
 judge-across-spec =

@@ -7,7 +7,7 @@ use Rattle.handing.proofs.write_out.Tie as tie
 returns : tie.Need-returns
 returns c =
     let p = c .before .before .before .before .pre .0 in
-    handing-end _ _ _ _ _ true _ _ _ _ _ _ (handing-first _ _ _ _ _ _ true _ (p .1) (p .2) (p .4) (p .5)) (p .0) (c .if1 .taken) .1
+    handing-end (handing-first p true _) (p .whole) (c .if1 .taken) .1
 
 hand-out-requires : tie.Need-hand-out-requires
 hand-out-requires c κs = search needs

@@ -11,6 +11,10 @@ use borrow.Author.Needs.{needs}
 use Rattle.listing.proofs.row_step.Statement.{statement}
 use Rattle.listing.proofs.row_step.Tie as tie
 
+-- from one place of the code back to another
+abbrev start-of-else1 : tie.Else1 → tie.Start
+start-of-else1 c = c .before .before .before .before
+
 awaiting-requires : tie.Need-awaiting-requires
 awaiting-requires c κs = search needs
 
@@ -19,8 +23,9 @@ over-requires c κs = search needs
 
 returns : tie.Need-returns
 returns c =
-    λ u f. rw (le-ltb (c .before .before .before .before .before .before .args .k) (c .before .before .before .before .before .before .args .place .packets) (c .before .before .if1 .taken))
-    (wrote-none (awaits (c .before .before .before .before .before .before .args .place) wait.Nothing) refl (c .before .awaiting .ensures) (c .over .ensures))
+    let at-start = c .before .before .before .before .before .before in
+    λ u f. rw (le-ltb (at-start .args .k) (at-start .args .place .packets) (c .before .before .if1 .taken))
+    (wrote-none (awaits (at-start .args .place) wait.Nothing) refl (c .before .awaiting .ensures) (c .over .ensures))
 
 mul-listed : tie.Need-mul-listed
 mul-listed c = omega (arith, filled-obus (c .before .before .before .before .before .pre .0 .1))
@@ -29,13 +34,20 @@ mul-planned : tie.Need-mul-planned
 mul-planned c = omega (arith, filled-plan (c .before .before .before .before .before .pre .0 .1))
 
 slice-aggregate-row-at : tie.Need-slice-aggregate-row-at
-slice-aggregate-row-at c = sym (length-take-le _ (c .before .before .before .before .before .before .args .obus .now) (filled-obus (c .before .before .before .before .before .before .pre .0 .1)))
+slice-aggregate-row-at c =
+    let at-start = c .before .before .before .before .before .before in
+    sym (length-take-le _ (at-start .args .obus .now) (filled-obus (at-start .pre .0 .1)))
 
 slice-aggregate-row-at-2 : tie.Need-slice-aggregate-row-at-2
-slice-aggregate-row-at-2 c = sym (length-take-le _ (c .before .before .before .before .before .before .before .args .plan .now) (filled-plan (c .before .before .before .before .before .before .before .pre .0 .1)))
+slice-aggregate-row-at-2 c =
+    let at-start = c .before .before .before .before .before .before .before in
+    sym (length-take-le _ (at-start .args .plan .now) (filled-plan (at-start .pre .0 .1)))
 
 row-at-requires : tie.Need-row-at-requires
-row-at-requires c κs = (omega (arith, c .before .before .before .if1 .left, length-take-le _ (c .before .before .before .before .before .before .before .args .plan .now) (filled-plan (c .before .before .before .before .before .before .before .pre .0 .1))), filled-headed (c .before .before .before .before .before .before .before .pre .0 .1) (c .before .before .before .if1 .left))
+row-at-requires c κs =
+    let at-else1 = c .before .before .before in
+    let at-start = start-of-else1 at-else1 in
+    (omega (arith, at-else1 .if1 .left, length-take-le _ (at-start .args .plan .now) (filled-plan (at-start .pre .0 .1))), filled-headed (at-start .pre .0 .1) (at-else1 .if1 .left))
 
 put-row-requires : tie.Need-put-row-requires
 put-row-requires c κs = search needs
@@ -54,11 +66,15 @@ same-length c = search needs
 
 returns-2 : tie.Need-returns-2
 returns-2 c =
+    let at-put-row = c .before .before .before .before in
+    let at-row-at = at-put-row .before .before in
+    let at-else1 = at-row-at .before .before .before .before in
+    let at-start = start-of-else1 at-else1 in
     λ u f.
-    let p = c .before .before .before .before .before .before .before .before .before .before .before .before .before .before .args .place in
-    let e = c .before .before .before .before .before .before .row-at .ensures ∙ filled-row f (c .before .before .before .before .before .before .before .before .before .before .if1 .left) in
-    rw (lt-ltb (c .before .before .before .before .before .before .before .before .before .before .before .before .before .before .args .k) (p .packets) (c .before .before .before .before .before .before .before .before .before .before .if1 .left))
-    (wrote (awaits p (wait.Row (c .before .before .before .before .before .before .before .before .before .before .before .before .before .before .args .k + 1))) _ _ 0 refl (c .before .awaiting2 .ensures) (c .ask .ensures) (rw e at (c .before .before .before .before .put-row .ensures)) (omega arith))
+    let p = at-start .args .place in
+    let e = at-row-at .row-at .ensures ∙ filled-row f (at-else1 .if1 .left) in
+    rw (lt-ltb (at-start .args .k) (p .packets) (at-else1 .if1 .left))
+    (wrote (awaits p (wait.Row (at-start .args .k + 1))) _ _ 0 refl (c .before .awaiting2 .ensures) (c .ask .ensures) (rw e at (at-put-row .put-row .ensures)) (omega arith))
 
 pub row-step-spec : {M : Type 1} → statement M
 row-step-spec =

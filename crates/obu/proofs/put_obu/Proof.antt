@@ -3,23 +3,33 @@ use borrow.Author.Needs.{needs}
 use Rattle.obu.proofs.put_obu.Statement.{statement}
 use Rattle.obu.proofs.put_obu.Tie as tie
 
-mul-at : tie.Need-mul-at
-mul-at c = let r = c .before .before .pre (c .if1 .taken) in omega arith
+-- where the numbers are stored
+abbrev at-if : tie.After-put-numbers-arg → tie.Then1
+at-if c = c .before .before .before
 
-cast-put-five : tie.Need-cast-put-five
-cast-put-five c = search needs
+abbrev at-numbers : tie.After-slice-known2 → tie.After-put-numbers
+at-numbers c = c .before .before
 
-cast-put-five-2 : tie.Need-cast-put-five-2
-cast-put-five-2 c = search needs
+cast-t7 : tie.Need-cast-t7
+cast-t7 c = search needs
 
-put-five-requires : tie.Need-put-five-requires
-put-five-requires c κs = let r = c .before .before .before .before .before .pre (c .before .before .before .if1 .taken) in omega arith
+cast-t8 : tie.Need-cast-t8
+cast-t8 c = search needs
+
+mul-put-numbers : tie.Need-mul-put-numbers
+mul-put-numbers c = let r = at-if c .before .before .pre (at-if c .if1 .taken) in omega arith
+
+slice-aggregate-put-numbers : tie.Need-slice-aggregate-put-numbers
+slice-aggregate-put-numbers c = search needs
+
+put-numbers-requires : tie.Need-put-numbers-requires
+put-numbers-requires c κs = let r = at-if (c .before) .before .before .pre (at-if (c .before) .if1 .taken) in omega arith
 
 same-length : tie.Need-same-length
 same-length c = search needs
 
 returns : tie.Need-returns
-returns c = rw (c .before .before .before .before .before .before .if1 .taken) (c .before .before .put-five .ensures)
+returns c = rw (at-if (at-numbers c .before .before) .if1 .taken) (at-numbers c .put-numbers .ensures)
 
 returns-2 : tie.Need-returns-2
 returns-2 c = search needs
@@ -27,4 +37,12 @@ returns-2 c = search needs
 pub put-obu-spec : {M : Type 1} → statement M
 put-obu-spec =
     tie.close
-    (tie.spec mul-at cast-put-five cast-put-five-2 put-five-requires same-length returns returns-2)
+    (tie.spec
+    cast-t7
+    cast-t8
+    mul-put-numbers
+    slice-aggregate-put-numbers
+    put-numbers-requires
+    same-length
+    returns
+    returns-2)

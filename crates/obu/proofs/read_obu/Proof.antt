@@ -42,6 +42,16 @@ field :
     paper (c .read-leb128 .result) ≡ sizeField (drop (c .before .before .before .before .before .before .before .header-size .result) all)
 field c all e = read c ∙ sym (same-field all (c .before .before .before .before .before .before .before .before .before .before .args .bytes .now) e (c .before .before .before .before .before .before .before .header-size .result) (omega arith))
 
+-- from one place of the code back to another
+abbrev else3-of-read-leb128 : tie.After-read-leb128 → tie.Else3
+else3-of-read-leb128 c = c .before .before
+
+abbrev header-size-of-extension-byte : tie.After-extension-byte → tie.After-header-size
+header-size-of-extension-byte c = c .before .before
+
+abbrev read-leb128-of-size : tie.After-size → tie.After-read-leb128
+read-leb128-of-size c = c .before .before
+
 shared-slice-read-header : tie.Need-shared-slice-read-header
 shared-slice-read-header c = search needs
 
@@ -63,8 +73,10 @@ obu-has-size-requires c κs = search needs
 
 returns-2 : tie.Need-returns-2
 returns-2 c =
+    let at-extension-byte = c .before .before .before in
+    let at-header-size = header-size-of-extension-byte at-extension-byte in
     λ all e l.
-    front-4 all _ _ (c .before .before .before .before .before .header-size .result) _ (known (c .before .before .before) all e l) (left (c .before .before .before) all l) (sym (c .before .before .obu-has-size .ensures) ∙ c .before .if2 .taken) (c .if3 .taken)
+    front-4 all _ _ (at-header-size .header-size .result) _ (known (at-extension-byte) all e l) (left (at-extension-byte) all l) (sym (c .before .before .obu-has-size .ensures) ∙ c .before .if2 .taken) (c .if3 .taken)
 
 sub-read-leb128 : tie.Need-sub-read-leb128
 sub-read-leb128 c = search needs
@@ -86,31 +98,54 @@ cast-payload c = search needs
 
 sub-if4 : tie.Need-sub-if4
 sub-if4 c =
+    let at-read-leb128 = c .before .before .before .before in
+    let at-header-size = at-read-leb128 .before .before .before .before .before .before .before in
+    let at-start = at-header-size .before .before .before in
     let v = c .before .before .size .given .0 .0 in
-    omega (arith, size-within _ (v .value) (v .used) (sym (ap paper (c .before .before .size .given .1)) ∙ read (c .before .before .before .before)), length-drop (c .before .before .before .before .before .before .before .before .before .before .before .header-size .result) (c .before .before .before .before .before .before .before .before .before .before .before .before .before .before .args .bytes .now))
+    omega (arith, size-within _ (v .value) (v .used) (sym (ap paper (c .before .before .size .given .1)) ∙ read (at-read-leb128)), length-drop (at-header-size .header-size .result) (at-start .args .bytes .now))
 
 enum-known-refusal : tie.Need-enum-known-refusal
 enum-known-refusal c = search needs
 
 returns-3 : tie.Need-returns-3
 returns-3 c =
+    let at-size = c .before .before .before in
+    let at-read-leb128 = read-leb128-of-size at-size in
+    let at-else3 = else3-of-read-leb128 at-read-leb128 in
+    let at-then2 = at-else3 .before in
+    let at-obu-has-size = at-then2 .before in
+    let at-extension-byte = at-obu-has-size .before in
+    let at-header-size = header-size-of-extension-byte at-extension-byte in
     λ all e l.
-    let v = c .before .before .before .size .given .0 .0 in
-    front-in all _ _ (c .before .before .before .before .before .before .before .before .before .before .before .before .header-size .result) _ (known (c .before .before .before .before .before .before .before .before .before .before) all e l) (left (c .before .before .before .before .before .before .before .before .before .before) all l) (sym (c .before .before .before .before .before .before .before .before .before .obu-has-size .ensures) ∙ c .before .before .before .before .before .before .before .before .if2 .taken) (c .before .before .before .before .before .before .before .if3 .left) (v .value) (v .used)
-    (sym (ap paper (c .before .before .before .size .given .1)) ∙ field (c .before .before .before .before .before) all e) (c .if4 .taken)
+    let v = at-size .size .given .0 .0 in
+    front-in all _ _ (at-header-size .header-size .result) _ (known (at-extension-byte) all e l) (left (at-extension-byte) all l) (sym (at-obu-has-size .obu-has-size .ensures) ∙ at-then2 .if2 .taken) (at-else3 .if3 .left) (v .value) (v .used)
+    (sym (ap paper (at-size .size .given .1)) ∙ field (at-read-leb128) all e) (c .if4 .taken)
 
 returns-4 : tie.Need-returns-4
 returns-4 c =
+    let at-size = c .before .before .before in
+    let at-read-leb128 = read-leb128-of-size at-size in
+    let at-else3 = else3-of-read-leb128 at-read-leb128 in
+    let at-then2 = at-else3 .before in
+    let at-obu-has-size = at-then2 .before in
+    let at-extension-byte = at-obu-has-size .before in
+    let at-header-size = header-size-of-extension-byte at-extension-byte in
     λ all e l.
-    let v = c .before .before .before .size .given .0 .0 in
-    front-past all _ _ (c .before .before .before .before .before .before .before .before .before .before .before .before .header-size .result) _ (known (c .before .before .before .before .before .before .before .before .before .before) all e l) (left (c .before .before .before .before .before .before .before .before .before .before) all l) (sym (c .before .before .before .before .before .before .before .before .before .obu-has-size .ensures) ∙ c .before .before .before .before .before .before .before .before .if2 .taken) (c .before .before .before .before .before .before .before .if3 .left) (v .value) (v .used)
-    (sym (ap paper (c .before .before .before .size .given .1)) ∙ field (c .before .before .before .before .before) all e) (c .if4 .left)
+    let v = at-size .size .given .0 .0 in
+    front-past all _ _ (at-header-size .header-size .result) _ (known (at-extension-byte) all e l) (left (at-extension-byte) all l) (sym (at-obu-has-size .obu-has-size .ensures) ∙ at-then2 .if2 .taken) (at-else3 .if3 .left) (v .value) (v .used)
+    (sym (ap paper (at-size .size .given .1)) ∙ field (at-read-leb128) all e) (c .if4 .left)
 
 returns-5 : tie.Need-returns-5
 returns-5 c =
+    let at-read-leb128 = c .before .before .before in
+    let at-else3 = else3-of-read-leb128 at-read-leb128 in
+    let at-then2 = at-else3 .before in
+    let at-obu-has-size = at-then2 .before in
+    let at-extension-byte = at-obu-has-size .before in
+    let at-header-size = header-size-of-extension-byte at-extension-byte in
     λ all e l.
-    front-bad all _ _ (c .before .before .before .before .before .before .before .before .before .before .header-size .result) _ (known (c .before .before .before .before .before .before .before .before) all e l) (left (c .before .before .before .before .before .before .before .before) all l) (sym (c .before .before .before .before .before .before .before .obu-has-size .ensures) ∙ c .before .before .before .before .before .before .if2 .taken) (c .before .before .before .before .before .if3 .left) _
-    (sym (ap paper (c .before .refusal .given .1)) ∙ field (c .before .before .before) all e)
+    front-bad all _ _ (at-header-size .header-size .result) _ (known (at-extension-byte) all e l) (left (at-extension-byte) all l) (sym (at-obu-has-size .obu-has-size .ensures) ∙ at-then2 .if2 .taken) (at-else3 .if3 .left) _
+    (sym (ap paper (c .before .refusal .given .1)) ∙ field (at-read-leb128) all e)
 
 returns-6 : tie.Need-returns-6
 returns-6 c =

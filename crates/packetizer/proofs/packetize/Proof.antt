@@ -1,70 +1,92 @@
 use mathlib.Core.Path.{_≡_, refl, sym, ap, _∙_}
-use Prim.Native.Nat.{_-_, _*_, _≤_, _<_}
+use Prim.Native.Nat.{ℕ, _-_, _*_, _≤_, _<_}
 use native.Mathlib.Omega.{arith}
 use borrow.Author.Needs.{needs}
-use mathlib.Core.List.{[]}
+use mathlib.Core.List.{List, []}
 use lib.ListN.{length, getD}
 use Rattle.obu.specs.Unit.{unitLimit}
+use Rattle.obu.specs.Records.{obusIn}
+use Rattle.obu.specs.declared.Obu.{Obu}
 use Rattle.packetizer.specs.Plan.{newPacket, planFrom, planOf}
-use Rattle.packetizer.specs.Paper.{recorded, sizesIn}
+use Rattle.packetizer.specs.Call.{sizes}
+use Rattle.packetizer.specs.Paper.{recorded}
 use Rattle.packetizer.specs.Laws.{Positive}
+use Rattle.packetizer.specs.declared.PacketMetadata.{PacketMetadata}
 use Rattle.packetizer.proofs.Stores.{recorded-none}
 use Rattle.packetizer.proofs.Planning.{plan-none, plan-low, plan-some}
-use Rattle.packetizer.proofs.Turns.{sizes-count, sizes-at, Small, small-positive, plan-few, current-held, Placing, placing-first, placing-room, placing-next, placing-count, placing-end}
+use Rattle.packetizer.proofs.Turns.{sizes-count, size-at, small-positive, plan-few, current-held, Placing, placing-first, placing-room, placing-next, placing-count, placing-end}
 use Rattle.packetizer.proofs.packetize.Statement.{statement}
 use Rattle.packetizer.proofs.packetize.Tie as tie
 
 abbrev Inv-loop : tie.InvT-loop
-Inv-loop obus count mtu plan₀ store room f₀ i₀ plan f i = Placing store room (sizesIn count obus) plan₀ plan (f .packet) (f .records) i
+Inv-loop obus mtu plan₀ store count room f₀ i₀ plan f i = Placing store room (sizes (obusIn obus)) plan₀ plan (f .packet) (f .records) i
 
 abbrev μ-loop : tie.MeasureT-loop
-μ-loop obus count mtu plan₀ store room f₀ i₀ plan f i = count - i
+μ-loop obus mtu plan₀ store count room f₀ i₀ plan f i = count - i
 
-small : (c : tie.Start Inv-loop μ-loop) → Small (sizesIn (c .args .count) (c .args .obus .now))
-small c j l = c .pre .1 .0 j (omega (arith, sizes-count (c .args .count) (c .args .obus .now)))
+-- ---- the places: there is something to plan; a turn of the loop; after the loop
 
-positive : (c : tie.Start Inv-loop μ-loop) → Positive (sizesIn (c .args .count) (c .args .obus .now))
-positive c = small-positive (sizesIn (c .args .count) (c .args .obus .now)) (small c)
+abbrev start : tie.Else2 Inv-loop μ-loop → tie.Start Inv-loop μ-loop
+start c = c .before .before .before .before
+
+abbrev planning : tie.At-loop Inv-loop μ-loop → tie.Else2 Inv-loop μ-loop
+planning c = c .before .before
+
+abbrev turn : tie.After-place-obu-arg Inv-loop μ-loop → tie.In-loop Inv-loop μ-loop
+turn c = c .before .before
+
+abbrev placed : tie.After-slice-known2 Inv-loop μ-loop → tie.After-place-obu Inv-loop μ-loop
+placed c = c .before .before
+
+abbrev looped : tie.After-struct-known Inv-loop μ-loop → tie.After-loop Inv-loop μ-loop
+looped c = c .before .before .before .before .before
+
+-- the sizes of the OBUs that are lent
+abbrev of : tie.Start Inv-loop μ-loop → List ℕ
+of c = sizes (obusIn (c .args .obus .now))
+
+positive : (c : tie.Start Inv-loop μ-loop) → Positive (of c)
+positive c = small-positive (of c) (c .pre .small)
 
 -- nothing is planned
-none : (c : tie.Start Inv-loop μ-loop) → planOf (c .args .mtu) (sizesIn (c .args .count) (c .args .obus .now)) ≡ []
-    → (0 ≡ length (planOf (c .args .mtu) (sizesIn (c .args .count) (c .args .obus .now))))
-    × (c .args .plan .now ≡ recorded (c .args .store) (c .args .plan .now) 0 (planOf (c .args .mtu) (sizesIn (c .args .count) (c .args .obus .now))))
+none : (c : tie.Start Inv-loop μ-loop) → planOf (c .args .mtu) (of c) ≡ []
+    → (0 ≡ length (planOf (c .args .mtu) (of c))) × (c .args .plan .now ≡ recorded (c .args .store) (c .args .plan .now) 0 (planOf (c .args .mtu) (of c)))
 none c e = rw e (refl, recorded-none (c .args .store) (c .args .plan .now) 0)
 
 -- the plan, where there is one
-some :
-    (c : tie.Else2 Inv-loop μ-loop) →
-    planOf (c .before .before .before .before .args .mtu) (sizesIn (c .before .before .before .before .args .count) (c .before .before .before .before .args .obus .now))
-    ≡ planFrom (c .before .before .before .before .args .mtu - 1) 0 (sizesIn (c .before .before .before .before .args .count) (c .before .before .before .before .args .obus .now)) (newPacket 0)
+abbrev planned : tie.Start Inv-loop μ-loop → List PacketMetadata
+planned c = planFrom (c .args .mtu - 1) 0 (of c) (newPacket 0)
+
+some : (c : tie.Else2 Inv-loop μ-loop) → planOf (start c .args .mtu) (of (start c)) ≡ planned (start c)
 some c =
-    plan-some (c .before .before .before .before .args .mtu) (sizesIn (c .before .before .before .before .args .count) (c .before .before .before .before .args .obus .now)) (omega (arith, c .if2 .left))
-    (λ e. c .before .if1 .left (sym (sizes-count (c .before .before .before .before .args .count) (c .before .before .before .before .args .obus .now)) ∙ e))
+    plan-some (start c .args .mtu) (of (start c)) (omega (arith, c .if2 .left))
+    (λ e. c .before .if1 .left (sym (sizes-count (start c .args .obus .now)) ∙ e))
 
 -- and it is not long
-few : (c : tie.Else2 Inv-loop μ-loop) → length (planFrom (c .before .before .before .before .args .mtu - 1) 0 (sizesIn (c .before .before .before .before .args .count) (c .before .before .before .before .args .obus .now)) (newPacket 0)) ≤ unitLimit * unitLimit
+few : (c : tie.Else2 Inv-loop μ-loop) → length (planned (start c)) ≤ unitLimit * unitLimit
 few c =
-    omega (
-      arith,
-      ap length (some c),
-      plan-few (c .before .before .before .before .args .mtu) (sizesIn (c .before .before .before .before .args .count) (c .before .before .before .before .args .obus .now)) (omega (arith, c .if2 .left)) (small (c .before .before .before .before)) (omega (arith, sizes-count (c .before .before .before .before .args .count) (c .before .before .before .before .args .obus .now), c .before .before .before .before .pre .0)),
-    )
+    let p = start c .pre in
+    omega (arith, ap length (some c), plan-few (start c .args .mtu) (of (start c)) (omega (arith, c .if2 .left)) (p .small) (p .few))
 
 -- an OBU that is placed, and its size
-inside : (c : tie.In-loop Inv-loop μ-loop) → c .before .loop .i < length (sizesIn (c .before .before .before .before .before .before .before .args .count) (c .before .before .before .before .before .before .before .args .obus .now))
-inside c = omega (arith, c .loop-test .taken, sizes-count (c .before .before .before .before .before .before .before .args .count) (c .before .before .before .before .before .before .before .args .obus .now))
+inside : (c : tie.In-loop Inv-loop μ-loop) → c .before .loop .i < length (of (start (planning (c .before))))
+inside c = omega (arith, c .loop-test .taken, sizes-count (start (planning (c .before)) .args .obus .now))
 
-size : (c : tie.After-size-at Inv-loop μ-loop) → c .size-at .result ≡ getD (sizesIn (c .before .before .before .before .before .before .before .before .before .args .count) (c .before .before .before .before .before .before .before .before .before .args .obus .now)) (c .before .before .before .loop .i) 0
-size c = c .size-at .ensures ∙ sym (sizes-at (c .before .before .before .before .before .before .before .before .before .args .count) (c .before .before .before .before .before .before .before .before .before .args .obus .now) (c .before .before .before .loop .i) (c .before .before .loop-test .taken))
+size : (c : tie.After-obu-at Inv-loop μ-loop) → c .obu-at .result .size ≡ getD (of (start (planning (c .before .before)))) (c .before .before .loop .i) 0
+size c =
+    ap (λ (o : Obu). o .size) (c .obu-at .ensures)
+    ∙ sym (size-at (obusIn (start (planning (c .before .before)) .args .obus .now)) (c .before .before .loop .i))
 
-ended : (c : tie.After-loop Inv-loop μ-loop) → length (sizesIn (c .before .before .before .before .before .before .before .args .count) (c .before .before .before .before .before .before .before .args .obus .now)) ≤ c .before .loop .i
-ended c = omega (arith, c .loop-test .left, sizes-count (c .before .before .before .before .before .before .before .args .count) (c .before .before .before .before .before .before .before .args .obus .now))
+ended : (c : tie.After-loop Inv-loop μ-loop) → length (of (start (planning (c .before)))) ≤ c .before .loop .i
+ended c = omega (arith, c .loop-test .left, sizes-count (start (planning (c .before)) .args .obus .now))
 
 returns : tie.Need-returns Inv-loop μ-loop
-returns c = none (c .before .before .before) (plan-none (c .before .before .before .args .mtu) _ (sizes-count (c .before .before .before .args .count) (c .before .before .before .args .obus .now) ∙ c .if1 .taken))
+returns c =
+    let s = c .before .before .before in
+    none s (plan-none (s .args .mtu) (of s) (sizes-count (s .args .obus .now) ∙ c .if1 .taken))
 
 returns-2 : tie.Need-returns-2 Inv-loop μ-loop
-returns-2 c = none (c .before .before .before .before) (plan-low (c .before .before .before .before .args .mtu) _ (c .if2 .taken))
+returns-2 c = let s = c .before .before .before .before in none s (plan-low (s .args .mtu) (of s) (c .if2 .taken))
 
 sub-room : tie.Need-sub-room Inv-loop μ-loop
 sub-room c = search needs
@@ -78,49 +100,62 @@ new-packet-requires c κs = search needs
 loop-holds : tie.Need-loop-holds Inv-loop μ-loop
 loop-holds c = placing-first _ _ _ _ _ (c .new-packet .ensures)
 
-cast-place-obu : tie.Need-cast-place-obu Inv-loop μ-loop
-cast-place-obu c = omega (arith, c .before .before .before .before .before .before .before .before .pre .0, c .before .loop-test .taken)
+obu-at-requires : tie.Need-obu-at-requires Inv-loop μ-loop
+obu-at-requires c κs = search needs
 
-size-at-requires : tie.Need-size-at-requires Inv-loop μ-loop
-size-at-requires c κs = omega (arith, c .before .before .before .before .before .before .before .before .pre .0, c .before .loop-test .taken)
+cast-place-obu : tie.Need-cast-place-obu Inv-loop μ-loop
+cast-place-obu c = omega (arith, start (planning (turn c .before)) .pre .few, inside (turn c))
 
 place-obu-requires : tie.Need-place-obu-requires Inv-loop μ-loop
 place-obu-requires c κs =
-    let v = c .before .before .before .loop in
-    let l = inside (c .before .before) in
-    rw (size c) (
-      omega (arith, current-held _ _ _ _ (v .inv .current), small (c .before .before .before .before .before .before .before .before .before) (v .i) l, c .before .before .before .before .before .before .before .before .before .pre .0, c .before .before .before .before .before .if2 .left),
+    let v = turn c .before .loop in
+    let p = planning (turn c .before) in
+    let l = inside (turn c) in
+    let r = placing-room _ _ _ _ _ _ _ _ (v .inv) l in
+    rw (size (c .before)) (
+      omega (arith, current-held _ _ _ _ (v .inv .current), start p .pre .small (v .i) l, start p .pre .most, p .if2 .left),
       (
-        omega (arith, few (c .before .before .before .before .before), placing-room _ _ _ _ _ _ _ _ (v .inv) l),
-        λ w. omega (arith, c .before .before .before .before .before .before .before .before .before .pre .1 .1 w, ap length (some (c .before .before .before .before .before)), placing-room _ _ _ _ _ _ _ _ (v .inv) l, v .inv .kept),
+        omega (arith, few p, r),
+        λ w. omega (arith, start p .pre .room w, ap length (some p), r, v .inv .kept),
       ),
     )
 
 add-i : tie.Need-add-i Inv-loop μ-loop
-add-i c = omega (arith, c .before .before .before .before .before .before .before .before .before .before .before .before .pre .0, c .before .before .before .before .before .loop-test .taken)
+add-i c = omega (arith, turn (placed c .before) .loop-test .taken)
 
 loop-less : tie.Need-loop-less Inv-loop μ-loop
-loop-less c = omega (arith, c .before .before .before .before .before .loop-test .taken)
+loop-less c = omega (arith, turn (placed c .before) .loop-test .taken)
 
 loop-again : tie.Need-loop-again Inv-loop μ-loop
 loop-again c =
-    placing-next _ _ _ _ _ _ _ _ (c .before .before .before .before .before .before .loop .inv) _ _ _ (omega (arith, c .before .before .before .before .before .before .before .before .if2 .left)) (positive (c .before .before .before .before .before .before .before .before .before .before .before .before)) (inside (c .before .before .before .before .before)) (c .before .before .place-obu .kept .0)
-    (rw (size (c .before .before .before)) at (c .before .before .place-obu .ensures))
+    let a = placed c .before in
+    let p = planning (turn a .before) in
+    placing-next _ _ _ _ _ _ _ _ (turn a .before .loop .inv) _ _ _ _ (size (a .before)) (omega (arith, p .if2 .left)) (positive (start p)) (inside (turn a))
+    (placed c .place-obu .kept .0) (placed c .place-obu .ensures)
 
 put-record-requires : tie.Need-put-record-requires Inv-loop μ-loop
-put-record-requires c κs = λ w. omega (arith, c .before .before .before .before .before .before .before .before .pre .1 .1 w, ap length (some (c .before .before .before .before)), placing-count _ _ _ _ _ _ _ _ (c .before .before .loop .inv) (ended (c .before)), c .before .before .loop .inv .kept)
+put-record-requires c κs = λ w.
+    let v = c .before .before .loop .inv in
+    let p = planning (c .before .before) in
+    omega (arith, start p .pre .room w, ap length (some p), placing-count _ _ _ _ _ _ _ _ v (ended (c .before)), v .kept)
 
 add-result : tie.Need-add-result Inv-loop μ-loop
-add-result c = omega (arith, few (c .before .before .before .before .before .before .before .before), placing-count _ _ _ _ _ _ _ _ (c .before .before .before .before .before .before .loop .inv) (ended (c .before .before .before .before .before)))
+add-result c =
+    let l = looped c in
+    omega (arith, few (planning (l .before)), placing-count _ _ _ _ _ _ _ _ (l .before .loop .inv) (ended l))
 
 same-length : tie.Need-same-length Inv-loop μ-loop
 same-length c = search needs
 
 returns-3 : tie.Need-returns-3 Inv-loop μ-loop
-returns-3 c = (
-  placing-count _ _ _ _ _ _ _ _ (c .before .before .before .before .before .before .loop .inv) (ended (c .before .before .before .before .before)) ∙ ap length (sym (some (c .before .before .before .before .before .before .before .before))),
-  placing-end _ _ _ _ _ _ _ _ (c .before .before .before .before .before .before .loop .inv) _ (ended (c .before .before .before .before .before)) (c .before .before .before .put-record .ensures) ∙ ap (recorded (c .before .before .before .before .before .before .before .before .before .before .before .before .args .store) (c .before .before .before .before .before .before .before .before .before .before .before .before .args .plan .now) 0) (sym (some (c .before .before .before .before .before .before .before .before))),
-)
+returns-3 c =
+    let l = looped c in
+    let a = start (planning (l .before)) .args in
+    let e = sym (some (planning (l .before))) in (
+      placing-count _ _ _ _ _ _ _ _ (l .before .loop .inv) (ended l) ∙ ap length e,
+      placing-end _ _ _ _ _ _ _ _ (l .before .loop .inv) _ (ended l) (c .before .before .before .put-record .ensures)
+          ∙ ap (recorded (a .store) (a .plan .now) 0) e,
+    )
 
 pub packetize-spec : {M : Type 1} → statement M
 packetize-spec =
@@ -134,8 +169,8 @@ packetize-spec =
     cast-room
     new-packet-requires
     loop-holds
+    obu-at-requires
     cast-place-obu
-    size-at-requires
     place-obu-requires
     add-i
     loop-less

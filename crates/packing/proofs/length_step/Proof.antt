@@ -11,6 +11,10 @@ use borrow.Author.Needs.{needs}
 use Rattle.packing.proofs.length_step.Statement.{statement}
 use Rattle.packing.proofs.length_step.Tie as tie
 
+-- from one place of the code back to another
+abbrev start-of-read-unit-length : tie.After-read-unit-length → tie.Start
+start-of-read-unit-length c = c .before .before .before
+
 read-unit-length-requires : tie.Need-read-unit-length-requires
 read-unit-length-requires c κs = search needs
 
@@ -40,22 +44,31 @@ ask-requires c κs = search needs
 
 returns : tie.Need-returns
 returns c =
-    let p = awaits (c .before .before .before .before .before .before .before .args .place) wait.Nothing in
-    gives p (c .before .awaiting .ensures) tt (ended p (ap (lengthTold (c .before .before .before .before .before .before .before .args .place)) (sym (c .before .before .before .before .read-unit-length .ensures) ∙ ap paperLength (c .before .before .enum-told .given .1))) (c .before .awaiting .ensures) (c .over .ensures))
+    let at-read-unit-length = c .before .before .before .before in
+    let at-start = start-of-read-unit-length at-read-unit-length in
+    let p = awaits (at-start .args .place) wait.Nothing in
+    gives p (c .before .awaiting .ensures) tt (ended p (ap (lengthTold (at-start .args .place)) (sym (at-read-unit-length .read-unit-length .ensures) ∙ ap paperLength (c .before .before .enum-told .given .1))) (c .before .awaiting .ensures) (c .over .ensures))
 
 same-length : tie.Need-same-length
 same-length c = search needs
 
 returns-2 : tie.Need-returns-2
-returns-2 c = gives-as (ap (lengthTold (c .before .before .before .before .before .before .before .before .before .args .place)) (sym (c .before .before .before .before .before .before .read-unit-length .ensures) ∙ ap paperLength (c .before .before .before .before .enum-told2 .given .1))) (c .before .before .say .ensures)
+returns-2 c =
+    let at-enum-told2 = c .before .before .before .before in
+    let at-read-unit-length = at-enum-told2 .before .before in
+    let at-start = start-of-read-unit-length at-read-unit-length in
+    gives-as (ap (lengthTold (at-start .args .place)) (sym (at-read-unit-length .read-unit-length .ensures) ∙ ap paperLength (at-enum-told2 .enum-told2 .given .1))) (c .before .before .say .ensures)
 
 returns-3 : tie.Need-returns-3
 returns-3 c =
-    let s = c .before .before .before .stated .given .0 .0 in
-    let p = awaits (c .before .before .before .before .before .before .before .before .args .place) (wait.Unit s) in
-    let e = sym (c .before .before .before .before .before .read-unit-length .ensures) ∙ ap paperLength (c .before .before .before .stated .given .1) in
+    let at-stated = c .before .before .before in
+    let at-read-unit-length = at-stated .before .before in
+    let at-start = start-of-read-unit-length at-read-unit-length in
+    let s = at-stated .stated .given .0 .0 in
+    let p = awaits (at-start .args .place) (wait.Unit s) in
+    let e = sym (at-read-unit-length .read-unit-length .ensures) ∙ ap paperLength (at-stated .stated .given .1) in
     gives p (c .before .awaiting2 .ensures) tt
-    (asked p [] 0 s (ap (lengthTold (c .before .before .before .before .before .before .before .before .args .place)) e) (c .before .awaiting2 .ensures) (c .ask .ensures) refl (omega arith) (stated-within (c .before .before .before .before .before .before .before .before .args .got .now) s (sym e)))
+    (asked p [] 0 s (ap (lengthTold (at-start .args .place)) e) (c .before .awaiting2 .ensures) (c .ask .ensures) refl (omega arith) (stated-within (at-start .args .got .now) s (sym e)))
 
 pub length-step-spec : {M : Type 1} → statement M
 length-step-spec =

@@ -13,6 +13,10 @@ use borrow.Author.Needs.{needs}
 use Rattle.packing.proofs.step.Statement.{statement}
 use Rattle.packing.proofs.step.Tie as tie
 
+-- from one place of the code back to another
+abbrev start-of-came : tie.After-came → tie.Start
+start-of-came c = c .before .before .before .before .before .before .before .before
+
 enum-told : tie.Need-enum-told
 enum-told c = search needs
 
@@ -38,7 +42,10 @@ enum-told-3 : tie.Need-enum-told-3
 enum-told-3 c = search needs
 
 slice-aggregate-head-step : tie.Need-slice-aggregate-head-step
-slice-aggregate-head-step c = came-part (c .before .before .before .before .before .before .before .before .before .before .before .before .args .input .now) (c .before .before .before .before .came .given .1) (c .before .before .before .before .before .before .before .before .before .before .before .before .pre .came-within) (c .before .before .before .before .before .before .before .before .before .before .before .before .pre .input-is)
+slice-aggregate-head-step c =
+    let at-came = c .before .before .before .before in
+    let at-start = start-of-came at-came in
+    came-part (at-start .args .input .now) (at-came .came .given .1) (at-start .pre .came-within) (at-start .pre .input-is)
 
 head-step-requires : tie.Need-head-step-requires
 head-step-requires c κs = search needs
@@ -47,7 +54,10 @@ enum-told-4 : tie.Need-enum-told-4
 enum-told-4 c = search needs
 
 slice-aggregate-length-step : tie.Need-slice-aggregate-length-step
-slice-aggregate-length-step c = came-part (c .before .before .before .before .before .before .before .before .before .before .before .before .args .input .now) (c .before .before .before .before .came .given .1) (c .before .before .before .before .before .before .before .before .before .before .before .before .pre .came-within) (c .before .before .before .before .before .before .before .before .before .before .before .before .pre .input-is)
+slice-aggregate-length-step c =
+    let at-came = c .before .before .before .before in
+    let at-start = start-of-came at-came in
+    came-part (at-start .args .input .now) (at-came .came .given .1) (at-start .pre .came-within) (at-start .pre .input-is)
 
 length-step-requires : tie.Need-length-step-requires
 length-step-requires c κs = search needs
@@ -56,21 +66,31 @@ enum-known-wait : tie.Need-enum-known-wait
 enum-known-wait c = search needs
 
 slice-aggregate-unit-step : tie.Need-slice-aggregate-unit-step
-slice-aggregate-unit-step c = came-part (c .before .before .before .before .before .before .before .before .before .before .before .before .before .args .input .now) (c .before .before .before .before .before .came .given .1) (c .before .before .before .before .before .before .before .before .before .before .before .before .before .pre .came-within) (c .before .before .before .before .before .before .before .before .before .before .before .before .before .pre .input-is)
+slice-aggregate-unit-step c =
+    let at-came = c .before .before .before .before .before in
+    let at-start = start-of-came at-came in
+    came-part (at-start .args .input .now) (at-came .came .given .1) (at-start .pre .came-within) (at-start .pre .input-is)
 
 unit-step-requires : tie.Need-unit-step-requires
-unit-step-requires c κs = (rw (c .before .before .before .before .before .before .wait .given .1) at (c .before .before .before .before .before .before .before .before .before .before .before .before .before .before .before .before .before .pre .ready), c .before .before .before .before .before .before .before .before .before .before .before .before .before .before .before .before .before .pre .obus-is, c .before .before .before .before .before .before .before .before .before .before .before .before .before .before .before .before .before .pre .plan-is, c .before .before .before .before .before .before .before .before .before .before .before .before .before .before .before .before .before .pre .out-is, c .before .before .before .before .before .before .before .before .before .before .before .before .before .before .before .before .before .pre .line-is)
+unit-step-requires c κs =
+    let at-wait = c .before .before .before .before .before .before in
+    let at-start = at-wait .before .before .before .before .before .before .before .before .before .before .before in
+    (rw (at-wait .wait .given .1) at (at-start .pre .ready), at-start .pre .obus-is, at-start .pre .plan-is, at-start .pre .out-is, at-start .pre .line-is)
 
 enum-known-wait-2 : tie.Need-enum-known-wait-2
 enum-known-wait-2 c = search needs
 
 slice-aggregate-packet-step : tie.Need-slice-aggregate-packet-step
 slice-aggregate-packet-step c =
-    let r : Ready (c .before .before .before .before .before .before .before .before .before .before .before .before .before .args .place .mtu) (c .before .before .wait2 .given .0 .0) (take ((c .before .before .wait2 .given .0 .0) .unit) (c .before .before .before .before .before .before .before .before .before .before .before .before .before .args .input .now)) (c .before .before .before .before .before .before .before .before .before .before .before .before .before .args .plan .now) (c .before .before .before .before .before .before .before .before .before .before .before .before .before .args .out .now) = ready-at _ _ _ _ (c .before .before .wait2 .given .1) (c .before .before .before .before .before .before .before .before .before .before .before .before .before .pre .ready) in
+    let at-start = c .before .before .before .before .before .before .before .before .before .before .before .before .before in
+    let r : Ready (at-start .args .place .mtu) (c .before .before .wait2 .given .0 .0) (take ((c .before .before .wait2 .given .0 .0) .unit) (at-start .args .input .now)) (at-start .args .plan .now) (at-start .args .out .now) = ready-at _ _ _ _ (c .before .before .wait2 .given .1) (at-start .pre .ready) in
     sym (r .unit-is)
 
 packet-step-requires : tie.Need-packet-step-requires
-packet-step-requires c κs = (ready-at _ _ _ _ (c .before .before .before .before .before .wait2 .given .1) (c .before .before .before .before .before .before .before .before .before .before .before .before .before .before .before .before .pre .ready), c .before .before .before .before .before .before .before .before .before .before .before .before .before .before .before .before .pre .written-is)
+packet-step-requires c κs =
+    let at-wait2 = c .before .before .before .before .before in
+    let at-start = at-wait2 .before .before .before .before .before .before .before .before .before .before .before in
+    (ready-at _ _ _ _ (at-wait2 .wait2 .given .1) (at-start .pre .ready), at-start .pre .written-is)
 
 enum-told-5 : tie.Need-enum-told-5
 enum-told-5 c = search needs
@@ -83,16 +103,22 @@ same-length c = search needs
 
 returns : tie.Need-returns
 returns c =
-    rw (c .before .before .before .before .before .enum-told .given .1)
-    (gives-as (ap (λ (s : Subject). says (awaits (c .before .before .before .before .before .before .before .before .before .before .before .before .before .args .place) wait.Nothing) s word.ReadFailed 0) (sym (c .before .before .before .before .read-subject .ensures))) (c .before .before .say .ensures), refl, ready-as _ _ _ (c .before .before .say .ensures .turned .0 .place-is) tt)
+    let at-read-subject = c .before .before .before .before in
+    let at-enum-told = at-read-subject .before in
+    let at-start = at-enum-told .before .before .before .before .before .before .before .before in
+    rw (at-enum-told .enum-told .given .1)
+    (gives-as (ap (λ (s : Subject). says (awaits (at-start .args .place) wait.Nothing) s word.ReadFailed 0) (sym (at-read-subject .read-subject .ensures))) (c .before .before .say .ensures), refl, ready-as _ _ _ (c .before .before .say .ensures .turned .0 .place-is) tt)
 
 same-length-2 : tie.Need-same-length-2
 same-length-2 c = search needs
 
 returns-2 : tie.Need-returns-2
 returns-2 c =
-    rw (c .before .before .before .before .before .enum-told2 .given .1)
-    (gives-as (ap (λ (s : Subject). says (awaits (c .before .before .before .before .before .before .before .before .before .before .before .before .before .args .place) wait.Nothing) s word.WriteFailed 0) (sym (c .before .before .before .before .written-subject .ensures))) (c .before .before .say2 .ensures), refl, ready-as _ _ _ (c .before .before .say2 .ensures .turned .0 .place-is) tt)
+    let at-written-subject = c .before .before .before .before in
+    let at-enum-told2 = at-written-subject .before in
+    let at-start = at-enum-told2 .before .before .before .before .before .before .before .before in
+    rw (at-enum-told2 .enum-told2 .given .1)
+    (gives-as (ap (λ (s : Subject). says (awaits (at-start .args .place) wait.Nothing) s word.WriteFailed 0) (sym (at-written-subject .written-subject .ensures))) (c .before .before .say2 .ensures), refl, ready-as _ _ _ (c .before .before .say2 .ensures .turned .0 .place-is) tt)
 
 same-length-3 : tie.Need-same-length-3
 same-length-3 c = search needs
@@ -102,22 +128,29 @@ same-length-4 c = search needs
 
 returns-3 : tie.Need-returns-3
 returns-3 c =
-    let a = c .before .before .before .before .before .before .before .before .before .before .before .before .before .before .before .before .before .before .before .args in
-    stepped (a .place) (a .came) _ wait.Head (a .input .now) _ _ (a .written .now) (c .before .before .before .before .before .before .before .before .before .before .before .came .given .1) (c .before .before .before .before .before .before .before .before .enum-told3 .given .1)
-    (c .before .before .before .before .head-step .ensures .0)
-    (c .before .before .before .before .head-step .ensures .1)
-    (ready-given _ _ _ (c .before .before .before .before .head-step .ensures .0) (head-ready _ _ _ (a .place) (headIn (take (c .before .before .before .before .before .before .before .before .before .before .before .came .given .0 .0) (a .input .now)))))
+    let at-head-step = c .before .before .before .before in
+    let at-enum-told3 = at-head-step .before .before .before .before in
+    let at-came = at-enum-told3 .before .before .before in
+    let at-start = start-of-came at-came in
+    let a = at-start .args in
+    stepped (a .place) (a .came) _ wait.Head (a .input .now) _ _ (a .written .now) (at-came .came .given .1) (at-enum-told3 .enum-told3 .given .1)
+    (at-head-step .head-step .ensures .0)
+    (at-head-step .head-step .ensures .1)
+    (ready-given _ _ _ (at-head-step .head-step .ensures .0) (head-ready _ _ _ (a .place) (headIn (take (at-came .came .given .0 .0) (a .input .now)))))
 
 same-length-5 : tie.Need-same-length-5
 same-length-5 c = search needs
 
 returns-4 : tie.Need-returns-4
 returns-4 c =
-    let a = c .before .before .before .before .before .before .before .before .before .before .before .before .before .before .before .before .args in
-    stepped (a .place) (a .came) _ wait.Length (a .input .now) _ _ (a .written .now) (c .before .before .before .before .before .before .before .before .came .given .1) (c .before .before .before .before .before .enum-told4 .given .1)
+    let at-enum-told4 = c .before .before .before .before .before in
+    let at-came = at-enum-told4 .before .before .before in
+    let at-start = start-of-came at-came in
+    let a = at-start .args in
+    stepped (a .place) (a .came) _ wait.Length (a .input .now) _ _ (a .written .now) (at-came .came .given .1) (at-enum-told4 .enum-told4 .given .1)
     (c .before .before .length-step .ensures)
-    (length-quiet (a .place) (lengthIn (take (c .before .before .before .before .before .before .before .before .came .given .0 .0) (a .input .now))) (a .written .now))
-    (ready-given _ _ _ (c .before .before .length-step .ensures) (length-ready _ _ _ (a .place) (take (c .before .before .before .before .before .before .before .before .came .given .0 .0) (a .input .now))))
+    (length-quiet (a .place) (lengthIn (take (at-came .came .given .0 .0) (a .input .now))) (a .written .now))
+    (ready-given _ _ _ (c .before .before .length-step .ensures) (length-ready _ _ _ (a .place) (take (at-came .came .given .0 .0) (a .input .now))))
 
 same-length-6 : tie.Need-same-length-6
 same-length-6 c = search needs
@@ -133,11 +166,15 @@ same-length-9 c = search needs
 
 returns-5 : tie.Need-returns-5
 returns-5 c =
-    let a = c .before .before .before .before .before .before .before .before .before .before .before .before .before .before .before .before .before .before .before .before .before .before .before .before .before .before .args in
-    stepped (a .place) (a .came) _ (wait.Unit _) (a .input .now) _ _ (a .written .now) (c .before .before .before .before .before .before .before .before .before .before .before .before .before .before .before .before .before .before .came .given .1) (c .before .before .before .before .before .before .before .before .before .before .before .before .before .before .before .wait .given .1)
-    (c .before .before .before .before .before .before .before .before .unit-step .ensures .0)
-    (unit-quiet (a .place) _ (stepIn (a .place .mtu) (c .before .before .before .before .before .before .before .before .before .before .before .before .before .before .before .wait .given .0 .0) (take (c .before .before .before .before .before .before .before .before .before .before .before .before .before .before .before .before .before .before .came .given .0 .0) (a .input .now))) (a .written .now))
-    (ready-wider (c .before .before .before .before .before .before .before .before .unit-step .result .place .wait) (c .before .before .before .before .before .before .before .before .unit-step .result .place .mtu) (c .before .before .before .before .before .before .before .before .before .before .before .before .before .before .before .before .before .before .came .given .0 .0) (a .input .now) _ _ (c .before .before .before .before .before .before .before .before .unit-step .ensures .1))
+    let at-unit-step = c .before .before .before .before .before .before .before .before in
+    let at-wait = at-unit-step .before .before .before .before .before .before .before in
+    let at-came = at-wait .before .before .before in
+    let at-start = start-of-came at-came in
+    let a = at-start .args in
+    stepped (a .place) (a .came) _ (wait.Unit _) (a .input .now) _ _ (a .written .now) (at-came .came .given .1) (at-wait .wait .given .1)
+    (at-unit-step .unit-step .ensures .0)
+    (unit-quiet (a .place) _ (stepIn (a .place .mtu) (at-wait .wait .given .0 .0) (take (at-came .came .given .0 .0) (a .input .now))) (a .written .now))
+    (ready-wider (at-unit-step .unit-step .result .place .wait) (at-unit-step .unit-step .result .place .mtu) (at-came .came .given .0 .0) (a .input .now) _ _ (at-unit-step .unit-step .ensures .1))
 
 same-length-10 : tie.Need-same-length-10
 same-length-10 c = search needs
@@ -150,19 +187,24 @@ same-length-12 c = search needs
 
 returns-6 : tie.Need-returns-6
 returns-6 c =
-    let a = c .before .before .before .before .before .before .before .before .before .before .before .before .before .before .before .before .before .before .before .args in
-    stepped (a .place) (a .came) _ (wait.Packets _) (a .input .now) _ _ (a .written .now) (c .before .before .before .before .before .before .before .before .before .before .before .came .given .1) (c .before .before .before .before .before .before .before .before .wait2 .given .1)
+    let at-wait2 = c .before .before .before .before .before .before .before .before in
+    let at-came = at-wait2 .before .before .before in
+    let at-start = start-of-came at-came in
+    let a = at-start .args in
+    stepped (a .place) (a .came) _ (wait.Packets _) (a .input .now) _ _ (a .written .now) (at-came .came .given .1) (at-wait2 .wait2 .given .1)
     (c .before .before .packet-step .ensures .0 _)
     (c .before .before .packet-step .ensures .1)
-    (ready-wider (c .before .before .packet-step .result .place .wait) (c .before .before .packet-step .result .place .mtu) (c .before .before .before .before .before .before .before .before .wait2 .given .0 .0 .unit) (a .input .now) _ _ (c .before .before .packet-step .ensures .2))
+    (ready-wider (c .before .before .packet-step .result .place .wait) (c .before .before .packet-step .result .place .mtu) (at-wait2 .wait2 .given .0 .0 .unit) (a .input .now) _ _ (c .before .before .packet-step .ensures .2))
 
 returns-7 : tie.Need-returns-7
 returns-7 c =
-    let a = c .before .before .before .before .before .before .before .before .before .before .before .before .args in
-    stepped (a .place) (a .came) _ wait.Nothing (a .input .now) _ _ (a .written .now) (c .before .before .before .before .came .given .1) (c .before .enum-told5 .given .1)
+    let at-came = c .before .before .before .before in
+    let at-start = start-of-came at-came in
+    let a = at-start .args in
+    stepped (a .place) (a .came) _ wait.Nothing (a .input .now) _ _ (a .written .now) (at-came .came .given .1) (c .before .enum-told5 .given .1)
     (gives (a .place) refl (rw (c .before .enum-told5 .given .1) tt) (ended (a .place) refl refl (c .over .ensures)))
     refl
-    (c .before .before .before .before .before .before .before .before .before .before .before .before .pre .ready)
+    (at-start .pre .ready)
 
 pub step-spec : {M : Type 1} → statement M
 step-spec =

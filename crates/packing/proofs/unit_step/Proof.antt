@@ -16,6 +16,10 @@ use borrow.Author.Needs.{needs}
 use Rattle.packing.proofs.unit_step.Statement.{statement}
 use Rattle.packing.proofs.unit_step.Tie as tie
 
+-- from one place of the code back to another
+abbrev start-of-pack-unit : tie.After-pack-unit → tie.Start
+start-of-pack-unit c = c .before .before .before .before .before .before .before .before .before
+
 pack-unit-requires : tie.Need-pack-unit-requires
 pack-unit-requires c κs = search needs
 
@@ -57,9 +61,12 @@ same-length-4 c = search needs
 
 returns : tie.Need-returns
 returns c =
-    let a = c .before .before .before .before .before .before .before .before .before .before .before .before .before .before .before .before .before .before .before .before .before .args in
-    let is = c .before .before .before .before .before .before .before .before .before .before .before .before .pack-unit .ensures .0 ∙ step-in (a .place .mtu) (a .stated) (a .got .now) (a .obus .now) (a .plan .now) (a .out .now) (c .before .before .before .before .before .before .before .before .before .before .before .before .before .before .before .before .before .before .before .before .before .pre .1) (c .before .before .before .before .before .before .before .before .before .before .before .before .before .before .before .before .before .before .before .before .before .pre .2) (c .before .before .before .before .before .before .before .before .before .before .before .before .before .before .before .before .before .before .before .before .before .pre .3) in
-    let e = ap (unitTold (a .place) (a .stated)) (sym is ∙ ap paperUnit (c .before .before .before .before .enum-told .given .1)) in
+    let at-enum-told = c .before .before .before .before in
+    let at-pack-unit = at-enum-told .before .before .before .before .before .before .before .before in
+    let at-start = start-of-pack-unit at-pack-unit in
+    let a = at-start .args in
+    let is = at-pack-unit .pack-unit .ensures .0 ∙ step-in (a .place .mtu) (a .stated) (a .got .now) (a .obus .now) (a .plan .now) (a .out .now) (at-start .pre .1) (at-start .pre .2) (at-start .pre .3) in
+    let e = ap (unitTold (a .place) (a .stated)) (sym is ∙ ap paperUnit (at-enum-told .enum-told .given .1)) in
     let g = gives-as e (c .before .before .say .ensures) in
     (g, ready-as _ _ _ (c .before .before .say .ensures .turned .0 .place-is) tt)
 
@@ -77,10 +84,14 @@ same-length-8 c = search needs
 
 returns-2 : tie.Need-returns-2
 returns-2 c =
-    let a = c .before .before .before .before .before .before .before .before .before .before .before .before .before .before .before .before .before .before .before .before .before .before .before .args in
-    let is = c .before .before .before .before .before .before .before .before .before .before .before .before .before .before .pack-unit .ensures .0 ∙ step-in (a .place .mtu) (a .stated) (a .got .now) (a .obus .now) (a .plan .now) (a .out .now) (c .before .before .before .before .before .before .before .before .before .before .before .before .before .before .before .before .before .before .before .before .before .before .before .pre .1) (c .before .before .before .before .before .before .before .before .before .before .before .before .before .before .before .before .before .before .before .before .before .before .before .pre .2) (c .before .before .before .before .before .before .before .before .before .before .before .before .before .before .before .before .before .before .before .before .before .before .before .pre .3) in
-    let e = ap (unitTold (a .place) (a .stated)) (sym is ∙ ap paperUnit (c .before .before .before .before .before .before .refusal .given .1)) in
-    let g = gives-as (e ∙ ap (λ (n : ℕ). says (awaits (a .place) wait.Nothing) (subject.Unit (a .place .count)) (word.Refused n) 0) (sym (c .before .before .before .before .number .ensures))) (c .before .before .say2 .ensures) in
+    let at-number = c .before .before .before .before in
+    let at-refusal = at-number .before .before in
+    let at-pack-unit = at-refusal .before .before .before .before .before .before .before .before in
+    let at-start = start-of-pack-unit at-pack-unit in
+    let a = at-start .args in
+    let is = at-pack-unit .pack-unit .ensures .0 ∙ step-in (a .place .mtu) (a .stated) (a .got .now) (a .obus .now) (a .plan .now) (a .out .now) (at-start .pre .1) (at-start .pre .2) (at-start .pre .3) in
+    let e = ap (unitTold (a .place) (a .stated)) (sym is ∙ ap paperUnit (at-refusal .refusal .given .1)) in
+    let g = gives-as (e ∙ ap (λ (n : ℕ). says (awaits (a .place) wait.Nothing) (subject.Unit (a .place .count)) (word.Refused n) 0) (sym (at-number .number .ensures))) (c .before .before .say2 .ensures) in
     (g, ready-as _ _ _ (c .before .before .say2 .ensures .turned .0 .place-is) tt)
 
 same-length-9 : tie.Need-same-length-9
@@ -94,13 +105,16 @@ same-length-11 c = search needs
 
 returns-3 : tie.Need-returns-3
 returns-3 c =
-    let a = c .before .before .before .before .before .before .before .before .before .before .before .before .before .before .before .before .before .before .before .before .args in
-    let is = c .before .before .before .before .before .before .before .before .before .before .before .pack-unit .ensures .0 ∙ step-in (a .place .mtu) (a .stated) (a .got .now) (a .obus .now) (a .plan .now) (a .out .now) (c .before .before .before .before .before .before .before .before .before .before .before .before .before .before .before .before .before .before .before .before .pre .1) (c .before .before .before .before .before .before .before .before .before .before .before .before .before .before .before .before .before .before .before .before .pre .2) (c .before .before .before .before .before .before .before .before .before .before .before .before .before .before .before .before .before .before .before .before .pre .3) in
-    let e = ap (unitTold (a .place) (a .stated)) (sym is ∙ ap paperUnit (c .before .before .before .packets .given .1)) in
-    let n = c .before .before .before .packets .given .0 .0 in
+    let at-packets = c .before .before .before in
+    let at-pack-unit = at-packets .before .before .before .before .before .before .before .before in
+    let at-start = start-of-pack-unit at-pack-unit in
+    let a = at-start .args in
+    let is = at-pack-unit .pack-unit .ensures .0 ∙ step-in (a .place .mtu) (a .stated) (a .got .now) (a .obus .now) (a .plan .now) (a .out .now) (at-start .pre .1) (at-start .pre .2) (at-start .pre .3) in
+    let e = ap (unitTold (a .place) (a .stated)) (sym is ∙ ap paperUnit (at-packets .packets .given .1)) in
+    let n = at-packets .packets .given .0 .0 in
     let p = awaits (a .place) (wait.Packets (begins (a .stated) n)) in (
       gives p (c .before .awaiting .ensures) (ap (λ (o : Order). o .read) (c .ask .ensures)) (asked p [] 0 0 e (c .before .awaiting .ensures) (c .ask .ensures) refl (omega arith) (omega arith)),
-      ready-as (a .got .now) _ _ (c .before .awaiting .ensures) (c .before .before .before .before .before .before .before .before .before .before .before .pack-unit .ensures .1 n (c .before .before .before .packets .given .1)),
+      ready-as (a .got .now) _ _ (c .before .awaiting .ensures) (at-pack-unit .pack-unit .ensures .1 n (at-packets .packets .given .1)),
     )
 
 pub unit-step-spec : {M : Type 1} → statement M

@@ -1,11 +1,11 @@
-use mathlib.Core.Path.{_≡_}
-use Prim.Native.Nat.{_+_, _-_, _/_, _≤_}
+use Prim.Native.Nat.{_+_, _-_, _≤_, _<_}
 use native.Mathlib.Omega.{arith}
 use borrow.Author.Needs.{needs}
+use mathlib.Core.List.{List}
 use lib.ListN.{length}
-use Rattle.packetizer.specs.Plan.{planNumbers}
-use Rattle.aggregation.specs.Flat.{packetOf, packetsIn}
-use Rattle.aggregation.proofs.Flat.{records-length}
+use Rattle.packetizer.specs.Records.{packetsIn}
+use Rattle.packetizer.specs.declared.PacketMetadata.{PacketMetadata}
+use Rattle.packetizer.proofs.Records.{packets-count}
 use Rattle.payloader.specs.Payload.{plannedBytes}
 use Rattle.payloader.proofs.Totals.{Adding, adding-first, adding-next, adding-room, adding-last}
 use Rattle.payloader.proofs.planned_bytes.Statement.{statement}
@@ -17,14 +17,18 @@ Inv-loop plan packets bytes₀ k₀ bytes k = Adding (packetsIn plan) bytes k
 abbrev μ-loop : tie.MeasureT-loop
 μ-loop plan packets bytes₀ k₀ bytes k = packets - k
 
--- how many records there are
-count : (c : tie.After-shared-slice-known Inv-loop μ-loop) → length (packetsIn (c .before .args .plan .now)) ≡ length (c .before .args .plan .now) / planNumbers
-count c = records-length planNumbers packetOf (length (c .before .args .plan .now) / planNumbers) (c .before .args .plan .now)
+-- the records that are lent
+abbrev packets : tie.At-loop Inv-loop μ-loop → List PacketMetadata
+packets c = packetsIn (c .before .before .args .plan .now)
 
-size : (c : tie.After-packet-at Inv-loop μ-loop) → c .before .before .loop .bytes + (c .packet-at .result .«packet_size» + 1) ≤ plannedBytes (packetsIn (c .before .before .before .before .args .plan .now))
-size c =
-    rw (c .packet-at .ensures)
-    (adding-room (packetsIn (c .before .before .before .before .args .plan .now)) _ _ (c .before .before .loop .inv) (omega (arith, count (c .before .before .before), c .before .loop-test .taken)))
+abbrev turn : tie.After-struct-known Inv-loop μ-loop → tie.After-packet-at Inv-loop μ-loop
+turn c = c .before
+
+inside : (c : tie.In-loop Inv-loop μ-loop) → c .before .loop .k < length (packets (c .before))
+inside c = omega (arith, packets-count (c .before .before .before .args .plan .now), c .loop-test .taken)
+
+size : (c : tie.After-packet-at Inv-loop μ-loop) → c .before .before .loop .bytes + (c .packet-at .result .«packet_size» + 1) ≤ plannedBytes (packets (c .before .before))
+size c = rw (c .packet-at .ensures) (adding-room (packets (c .before .before)) _ _ (c .before .before .loop .inv) (inside (c .before)))
 
 loop-holds : tie.Need-loop-holds Inv-loop μ-loop
 loop-holds c = adding-first (packetsIn (c .before .args .plan .now))
@@ -36,10 +40,10 @@ cast-bytes : tie.Need-cast-bytes Inv-loop μ-loop
 cast-bytes c = search needs
 
 add-bytes : tie.Need-add-bytes Inv-loop μ-loop
-add-bytes c = omega (arith, size (c .before), c .before .before .before .before .before .pre)
+add-bytes c = omega (arith, size (turn c), turn c .before .before .before .before .pre)
 
 add-bytes-2 : tie.Need-add-bytes-2 Inv-loop μ-loop
-add-bytes-2 c = omega (arith, size (c .before), c .before .before .before .before .before .pre)
+add-bytes-2 c = omega (arith, size (turn c), turn c .before .before .before .before .pre)
 
 add-k : tie.Need-add-k Inv-loop μ-loop
 add-k c = search needs
@@ -49,11 +53,12 @@ loop-less c = search needs
 
 loop-again : tie.Need-loop-again Inv-loop μ-loop
 loop-again c =
-    rw (c .before .packet-at .ensures)
-    (adding-next (packetsIn (c .before .before .before .before .before .args .plan .now)) _ _ (c .before .before .before .loop .inv) (omega (arith, count (c .before .before .before .before), c .before .before .loop-test .taken)))
+    let l = turn c .before in
+    rw (turn c .packet-at .ensures) (adding-next (packets (l .before)) _ _ (l .before .loop .inv) (inside l))
 
 returns : tie.Need-returns Inv-loop μ-loop
-returns c = adding-last (packetsIn (c .before .before .before .args .plan .now)) _ _ (c .before .loop .inv) (omega (arith, count (c .before .before), c .loop-test .left))
+returns c =
+    adding-last (packets (c .before)) _ _ (c .before .loop .inv) (omega (arith, packets-count (c .before .before .before .args .plan .now), c .loop-test .left))
 
 pub planned-bytes-spec : {M : Type 1} → statement M
 planned-bytes-spec =

@@ -10,6 +10,10 @@ use borrow.Author.Needs.{needs}
 use Rattle.payloader.proofs.put_part.Statement.{statement}
 use Rattle.payloader.proofs.put_part.Tie as tie
 
+-- from one place of the code back to another
+abbrev start-of-header-size : tie.After-header-size → tie.Start
+start-of-header-size c = c .before .before .before
+
 header-size-requires : tie.Need-header-size-requires
 header-size-requires c κs = search needs
 
@@ -21,13 +25,15 @@ smaller-requires c κs = search needs
 
 put-head-requires : tie.Need-put-head-requires
 put-head-requires c κs =
-    let o = c .before .before .before .before .before .before .args .o in
-    let from = c .before .before .before .before .before .before .args .from in
-    let n = c .before .before .before .before .before .before .args .n in
+    let at-header-size = c .before .before .before in
+    let at-start = start-of-header-size at-header-size in
+    let o = at-start .args .o in
+    let from = at-start .args .from in
+    let n = at-start .args .n in
     let e : c .before .smaller .result ≡ min n (headerSize (o .header) - from) =
-    c .before .smaller .ensures ∙ ap (min n) (c .before .before .beyond .ensures ∙ ap (λ (x : ℕ). x - from) (c .before .before .before .header-size .ensures)) in
+    c .before .smaller .ensures ∙ ap (min n) (c .before .before .beyond .ensures ∙ ap (λ (x : ℕ). x - from) (at-header-size .header-size .ensures)) in
     let a : c .before .smaller .result ≤ headerSize (o .header) - from = omega arith in
-    let b : c .before .before .before .before .before .before .args .at + c .before .smaller .result ≤ length (c .before .before .before .before .before .before .args .out .now) = omega (arith, c .before .before .before .before .before .before .pre .2) in
+    let b : at-start .args .at + c .before .smaller .result ≤ length (at-start .args .out .now) = omega (arith, at-start .pre .2) in
     (a, b)
 
 cast-start : tie.Need-cast-start
@@ -53,24 +59,30 @@ same-length c = search needs
 
 returns : tie.Need-returns
 returns c =
-    let o = c .before .before .before .before .before .before .before .before .before .before .before .before .before .before .before .args .o in
-    let from = c .before .before .before .before .before .before .before .before .before .before .before .before .before .before .before .args .from in
-    let n = c .before .before .before .before .before .before .before .before .before .before .before .before .before .before .before .args .n in
-    let u = c .before .before .before .before .before .before .before .before .before .before .before .before .before .before .before .args .unit .now in
-    let out = c .before .before .before .before .before .before .before .before .before .before .before .before .before .before .before .args .out .now in
-    let at = c .before .before .before .before .before .before .before .before .before .before .before .before .before .before .before .args .at in
-    let e : c .before .before .before .before .before .before .before .before .before .before .smaller .result ≡ inHead o from n =
-    c .before .before .before .before .before .before .before .before .before .before .smaller .ensures ∙ ap (min n) (c .before .before .before .before .before .before .before .before .before .before .before .beyond .ensures ∙ ap (λ (x : ℕ). x - from) (c .before .before .before .before .before .before .before .before .before .before .before .before .header-size .ensures)) in
-    let s : o .start + c .before .before .before .before .beyond2 .result ≡ o .start + (from - headerSize (o .header)) =
-    ap (λ (x : ℕ). o .start + x) (c .before .before .before .before .beyond2 .ensures ∙ ap (λ (x : ℕ). from - x) (c .before .before .before .before .before .before .before .before .before .before .before .before .header-size .ensures)) in
+    let at-beyond2 = c .before .before .before .before in
+    let at-put-head = at-beyond2 .before .before .before .before in
+    let at-smaller = at-put-head .before .before in
+    let at-beyond = at-smaller .before in
+    let at-header-size = at-beyond .before in
+    let at-start = start-of-header-size at-header-size in
+    let o = at-start .args .o in
+    let from = at-start .args .from in
+    let n = at-start .args .n in
+    let u = at-start .args .unit .now in
+    let out = at-start .args .out .now in
+    let at = at-start .args .at in
+    let e : at-smaller .smaller .result ≡ inHead o from n =
+    at-smaller .smaller .ensures ∙ ap (min n) (at-beyond .beyond .ensures ∙ ap (λ (x : ℕ). x - from) (at-header-size .header-size .ensures)) in
+    let s : o .start + at-beyond2 .beyond2 .result ≡ o .start + (from - headerSize (o .header)) =
+    ap (λ (x : ℕ). o .start + x) (at-beyond2 .beyond2 .ensures ∙ ap (λ (x : ℕ). from - x) (at-header-size .header-size .ensures)) in
     let k : length (take (inHead o from n) (drop from (headOf o))) ≡ inHead o from n =
     length-take-le (inHead o from n) (drop from (headOf o)) (omega (arith, length-drop from (headOf o), head-length o)) in (
       omega (arith, c .before .before .copy-bytes .ensures .0, e),
       c .before .before .copy-bytes .ensures .1
-          ∙ rw (s, c .before .before .before .before .before .before .before .before .put-head .ensures, e)
+          ∙ rw (s, at-put-head .put-head .ensures, e)
           (ap (λ (x : ℕ). sets (sets out at (take (inHead o from n) (drop from (headOf o)))) x (take (n - inHead o from n) (drop (o .start + (from - headerSize (o .header))) u))) (ap (λ (x : ℕ). at + x) (sym k))
           ∙ sym (sets-append out at (take (inHead o from n) (drop from (headOf o))) (take (n - inHead o from n) (drop (o .start + (from - headerSize (o .header))) u)))
-          ∙ ap (sets out at) (part-split u o from n (c .before .before .before .before .before .before .before .before .before .before .before .before .before .before .before .pre .1))),
+          ∙ ap (sets out at) (part-split u o from n (at-start .pre .1))),
     )
 
 pub put-part-spec : {M : Type 1} → statement M

@@ -3,9 +3,9 @@ use Prim.Native.Nat.{_-_, _*_, _<_}
 use native.Mathlib.Omega.{arith}
 use borrow.Author.Needs.{needs}
 use lib.ListN.{length}
-use Rattle.packetizer.specs.Plan.{planNumbers}
 use Rattle.packetizer.specs.Call.{unitPlan}
-use Rattle.packetizer.proofs.Stores.{flat-length}
+use Rattle.packetizer.specs.Records.{planNumbers}
+use Rattle.packetizer.proofs.Records.{plan-length}
 use Rattle.payloader.proofs.Totals.{Sending, sending-first, sending-room, sending-next, sending-last}
 use Rattle.payloader.proofs.write_packets.Statement.{statement}
 use Rattle.payloader.proofs.write_packets.Tie as tie
@@ -16,37 +16,51 @@ Inv-loop mtu unit obus plan out₀ packets at₀ k₀ out at k = Sending mtu uni
 abbrev μ-loop : tie.MeasureT-loop
 μ-loop mtu unit obus plan out₀ packets at₀ k₀ out at k = packets - k
 
+-- ---- the places: the loop begins; a turn of it
+
+abbrev start : tie.At-loop Inv-loop μ-loop → tie.Start Inv-loop μ-loop
+start c = c .before .before .before .before .before
+
+abbrev turn : tie.After-slice-known2 Inv-loop μ-loop → tie.In-loop Inv-loop μ-loop
+turn c = c .before .before .before .before
+
 -- how many numbers there are
-count : (c : tie.After-slice-known Inv-loop μ-loop) → length (c .before .before .before .before .args .plan .now) ≡ length (unitPlan (c .before .before .before .before .args .mtu) (c .before .before .before .before .args .unit .now)) * planNumbers
-count c = ap length (c .before .before .before .before .pre .0 .2) ∙ flat-length (unitPlan (c .before .before .before .before .args .mtu) (c .before .before .before .before .args .unit .now))
+count : (c : tie.Start Inv-loop μ-loop) → length (c .args .plan .now) ≡ length (unitPlan (c .args .mtu) (c .args .unit .now)) * planNumbers
+count c = ap length (c .pre .0 .plan-is) ∙ plan-length (unitPlan (c .args .mtu) (c .args .unit .now))
+
+inside : (c : tie.In-loop Inv-loop μ-loop) → c .before .loop .k < length (unitPlan (start (c .before) .args .mtu) (start (c .before) .args .unit .now))
+inside c = omega (arith, count (start (c .before)), c .loop-test .taken)
 
 loop-holds : tie.Need-loop-holds Inv-loop μ-loop
-loop-holds c = sending-first (c .before .before .before .before .args .mtu) (c .before .before .before .before .args .unit .now) (c .before .before .before .before .args .out .now)
+loop-holds c = let a = c .before .before .before .before .args in sending-first (a .mtu) (a .unit .now) (a .out .now)
 
 write-packet-requires : tie.Need-write-packet-requires Inv-loop μ-loop
 write-packet-requires c κs =
-    let a = c .before .before .before .before .before .before .before .args in
-    let h : c .before .before .loop .k < length (unitPlan (a .mtu) (a .unit .now)) = omega (arith, count (c .before .before .before), c .before .loop-test .taken) in
-    ((c .before .before .before .before .before .before .before .pre .0 .0, c .before .before .before .before .before .before .before .pre .0 .1, c .before .before .before .before .before .before .before .pre .0 .2, h), sending-room (a .mtu) (a .unit .now) (a .out .now) _ _ _ (c .before .before .loop .inv) h (c .before .before .before .before .before .before .before .pre .1))
+    let t = c .before in
+    let s = start (t .before) in
+    let a = s .args in
+    (s .pre .0, record { there = inside t; room = sending-room (a .mtu) (a .unit .now) (a .out .now) _ _ _ (t .before .loop .inv) (inside t) (s .pre .1) })
 
 add-k : tie.Need-add-k Inv-loop μ-loop
-add-k c = omega (arith, c .before .before .before .before .loop-test .taken)
+add-k c = omega (arith, turn c .loop-test .taken)
 
 loop-less : tie.Need-loop-less Inv-loop μ-loop
 loop-less c = search needs
 
 loop-again : tie.Need-loop-again Inv-loop μ-loop
 loop-again c =
-    let a = c .before .before .before .before .before .before .before .before .before .before .args in
-    sending-next (a .mtu) (a .unit .now) (a .out .now) _ _ _ (c .before .before .before .before .before .loop .inv) (omega (arith, count (c .before .before .before .before .before .before), c .before .before .before .before .loop-test .taken)) _ _ (c .before .before .write-packet .kept .1 .1 .1 .1 .1 .0) (c .before .before .write-packet .ensures .0) (c .before .before .write-packet .ensures .1)
+    let t = turn c in
+    let a = start (t .before) .args in
+    let w = c .before .before .write-packet in
+    sending-next (a .mtu) (a .unit .now) (a .out .now) _ _ _ (t .before .loop .inv) (inside t) _ _ (w .ensures .0) (w .ensures .1)
 
 same-length : tie.Need-same-length Inv-loop μ-loop
-same-length c = c .before .loop .inv .same
+same-length c = c .before .loop .inv .storing .same
 
 returns : tie.Need-returns Inv-loop μ-loop
 returns c =
-    let a = c .before .before .before .before .before .before .args in
-    sending-last (a .mtu) (a .unit .now) (a .out .now) _ _ _ (c .before .loop .inv) (omega (arith, count (c .before .before), c .loop-test .left))
+    let a = start (c .before) .args in
+    sending-last (a .mtu) (a .unit .now) (a .out .now) _ _ _ (c .before .loop .inv) (omega (arith, count (start (c .before)), c .loop-test .left))
 
 pub write-packets-spec : {M : Type 1} → statement M
 write-packets-spec =

@@ -1,37 +1,71 @@
 use mathlib.Core.Path.{_≡_, sym, ap, _∙_}
-use Prim.Native.Nat.{_+_, _≤_}
+use Prim.Native.Nat.{ℕ, _+_, _≤_}
 use native.Mathlib.Omega.{arith}
+use mathlib.Core.List.{List}
 use lib.ListN.{length, drop}
-use Rattle.train.specs.Train.{lengthWidth, leastStated, stated, frontBy, frontOf}
+use Rattle.train.specs.Train.{countedWidth, leastStated, Front, bodyOf, frontBy, frontOf}
 use Rattle.train.specs.Paper.{paperLength, paperRecord}
 use Rattle.train.proofs.Reading.{body-holds, shifted, at-end, at-within, at-length, at-body}
 use borrow.Author.Needs.{needs}
 use Rattle.train.proofs.read_record.Statement.{statement}
 use Rattle.train.proofs.read_record.Tie as tie
 
--- the record, by the length that was read
+-- ---- places: where the body was read, where the width was counted, where the length was read, and the start
+
+abbrev counted : tie.After-read-body → tie.After-counted-width
+counted c = c .before .before
+
+abbrev lengthRead : tie.After-counted-width → tie.After-read-length
+lengthRead c = c .before .before .before .before
+
+abbrev start : tie.After-read-length → tie.Start
+start c = c .before .before .before .before
+
+-- ---- the bytes from the record on, the width of its length field, and the record
+
+abbrev restAt : tie.Start → List ℕ
+restAt c = drop (c .args .at) (c .args .bytes .now)
+
+abbrev widthAt : tie.Start → ℕ
+widthAt c = countedWidth (c .args .width)
+
+abbrev frontAt : tie.Start → Front
+frontAt c = frontOf (widthAt c) (c .args .at) (restAt c)
+
+-- by the length that was read
 front : (c : tie.After-read-length) →
-    frontBy lengthWidth (c .before .before .before .before .args .at) (drop (c .before .before .before .before .args .at) (c .before .before .before .before .args .bytes .now)) (paperLength (c .read-length .result))
-    ≡ frontOf lengthWidth (c .before .before .before .before .args .at) (drop (c .before .before .before .before .args .at) (c .before .before .before .before .args .bytes .now))
-front c = at-length lengthWidth (c .before .before .before .before .args .bytes .now) (c .before .before .before .before .args .at) _ (omega arith) (c .read-length .ensures)
+    frontBy (widthAt (start c)) (start c .args .at) (restAt (start c)) (paperLength (c .read-length .result)) ≡ frontAt (start c)
+front c =
+    let s = start c in
+    at-length (widthAt s) (s .args .bytes .now) (s .args .at) _ (omega arith) (c .read-length .ensures)
 
 -- a length that was stated
-within : (c : tie.After-known-told2) → (c .before .before .before .before .before .before .before .args .at + lengthWidth ≤ length (c .before .before .before .before .before .before .before .args .bytes .now)) × (leastStated ≤ c .before .stated .given .0 .0 .bytes)
+within : (c : tie.After-counted-width) →
+    (start (lengthRead c) .args .at + c .counted-width .result ≤ length (start (lengthRead c) .args .bytes .now))
+    × (leastStated ≤ c .before .before .stated .given .0 .0 .bytes)
 within c =
-    at-within lengthWidth (c .before .before .before .before .before .before .before .args .bytes .now) (c .before .before .before .before .before .before .before .args .at) _ (omega arith) (sym (ap paperLength (c .before .stated .given .1)) ∙ c .before .before .before .read-length .ensures)
+    let r = lengthRead c in
+    let s = start r in
+    let k = at-within (widthAt s) (s .args .bytes .now) (s .args .at) _ (omega arith) (sym (ap paperLength (c .before .before .stated .given .1)) ∙ r .read-length .ensures) in
+    (omega (arith, k .0, c .counted-width .ensures), k .1)
 
--- the record, by what was read after its length
+-- by what was read after its length
 body : (c : tie.After-read-body) →
-    shifted (c .before .before .before .before .before .before .before .before .before .args .at + lengthWidth) (paperRecord (c .read-body .result))
-    ≡ frontOf lengthWidth (c .before .before .before .before .before .before .before .before .before .args .at) (drop (c .before .before .before .before .before .before .before .before .before .args .at) (c .before .before .before .before .before .before .before .before .before .args .bytes .now))
+    shifted (start (lengthRead (counted c)) .args .at + counted c .counted-width .result) (paperRecord (c .read-body .result))
+    ≡ frontAt (start (lengthRead (counted c)))
 body c =
-    let a = c .before .before .before .before .before .before .before .before .before .args in
-    at-body lengthWidth (a .bytes .now) (a .at) _ _ (within (c .before .before) .0) (c .read-body .ensures)
-    ∙ ap (frontBy lengthWidth (a .at) (drop (a .at) (a .bytes .now))) (sym (ap paperLength (c .before .before .before .stated .given .1)))
-    ∙ front (c .before .before .before .before .before)
+    let k = counted c in
+    let r = lengthRead k in
+    let s = start r in
+    at-body (k .counted-width .result) (s .args .bytes .now) (s .args .at) _ _ (within k .0) (c .read-body .ensures)
+    ∙ ap (λ (w : ℕ). bodyOf (k .before .before .stated .given .0 .0 .bytes) (s .args .at + w) (drop w (restAt s))) (k .counted-width .ensures)
+    ∙ ap (frontBy (widthAt s) (s .args .at) (restAt s)) (sym (ap paperLength (k .before .before .stated .given .1)))
+    ∙ front r
+
+-- ---- what is left
 
 returns : tie.Need-returns
-returns c = at-end lengthWidth (c .before .before .args .bytes .now) (c .before .before .args .at) (c .if1 .taken)
+returns c = let a = c .before .before .args in at-end (countedWidth (a .width)) (a .bytes .now) (a .at) (c .if1 .taken)
 
 sub-read-length : tie.Need-sub-read-length
 sub-read-length c = search needs
@@ -54,8 +88,11 @@ enum-known-refusal c = search needs
 enum-known-stated : tie.Need-enum-known-stated
 enum-known-stated c = search needs
 
+counted-width-requires : tie.Need-counted-width-requires
+counted-width-requires c κs = search needs
+
 add-body : tie.Need-add-body
-add-body c = search needs
+add-body c = let h = within c in omega arith
 
 sub-read-body : tie.Need-sub-read-body
 sub-read-body c = let h = within c in omega arith
@@ -78,17 +115,18 @@ enum-known-refusal-2 c = search needs
 enum-known-head : tie.Need-enum-known-head
 enum-known-head c = search needs
 
-add-t21 : tie.Need-add-t21
-add-t21 c =
-    let h = within (c .before .before .before .before .before .before) in
-    let k = body-holds _ _ _ (c .before .before .head .given .0 .0) (sym (ap paperRecord (c .before .before .head .given .1)) ∙ c .before .before .before .before .read-body .ensures) in
+add-t22 : tie.Need-add-t22
+add-t22 c =
+    let at = c .before .before .before .before in
+    let h = within (counted at) in
+    let k = body-holds _ _ _ (c .before .before .head .given .0 .0) (sym (ap paperRecord (c .before .before .head .given .1)) ∙ at .read-body .ensures) in
     omega arith
 
 returns-2 : tie.Need-returns-2
-returns-2 c = ap (frontBy lengthWidth _ _) (sym (ap paperLength (c .enum-told .given .1))) ∙ front (c .before .before)
+returns-2 c = ap (frontBy _ _ _) (sym (ap paperLength (c .enum-told .given .1))) ∙ front (c .before .before)
 
 returns-3 : tie.Need-returns-3
-returns-3 c = ap (frontBy lengthWidth _ _) (sym (ap paperLength (c .before .refusal .given .1))) ∙ front (c .before .before .before)
+returns-3 c = ap (frontBy _ _ _) (sym (ap paperLength (c .before .refusal .given .1))) ∙ front (c .before .before .before)
 
 returns-4 : tie.Need-returns-4
 returns-4 c = ap (shifted _) (sym (ap paperRecord (c .enum-told2 .given .1))) ∙ body (c .before .before)
@@ -111,6 +149,7 @@ read-record-spec =
     enum-told
     enum-known-refusal
     enum-known-stated
+    counted-width-requires
     add-body
     sub-read-body
     part-read-body-start
@@ -119,7 +158,7 @@ read-record-spec =
     enum-told-2
     enum-known-refusal-2
     enum-known-head
-    add-t21
+    add-t22
     returns-2
     returns-3
     returns-4

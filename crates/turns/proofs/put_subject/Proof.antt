@@ -1,4 +1,3 @@
-use Rattle.base.proofs.Lists.{put-then}
 use borrow.Author.Needs.{needs}
 use Rattle.turns.proofs.put_subject.Statement.{statement}
 use Rattle.turns.proofs.put_subject.Tie as tie
@@ -24,26 +23,20 @@ put-text-requires-2 c κs = search needs
 enum-known-subject : tie.Need-enum-known-subject
 enum-known-subject c = search needs
 
-slice-aggregate-put-text-3 : tie.Need-slice-aggregate-put-text-3
-slice-aggregate-put-text-3 c = search needs
+slice-aggregate-put-labelled : tie.Need-slice-aggregate-put-labelled
+slice-aggregate-put-labelled c = search needs
 
-put-text-requires-3 : tie.Need-put-text-requires-3
-put-text-requires-3 c κs = search needs
-
-put-decimal-requires : tie.Need-put-decimal-requires
-put-decimal-requires c κs = search needs
+put-labelled-requires : tie.Need-put-labelled-requires
+put-labelled-requires c κs = search needs
 
 enum-known-subject-2 : tie.Need-enum-known-subject-2
 enum-known-subject-2 c = search needs
 
-slice-aggregate-put-text-4 : tie.Need-slice-aggregate-put-text-4
-slice-aggregate-put-text-4 c = search needs
+slice-aggregate-put-labelled-2 : tie.Need-slice-aggregate-put-labelled-2
+slice-aggregate-put-labelled-2 c = search needs
 
-put-text-requires-4 : tie.Need-put-text-requires-4
-put-text-requires-4 c κs = search needs
-
-put-decimal-requires-2 : tie.Need-put-decimal-requires-2
-put-decimal-requires-2 c κs = search needs
+put-labelled-requires-2 : tie.Need-put-labelled-requires-2
+put-labelled-requires-2 c κs = search needs
 
 same-length : tie.Need-same-length
 same-length c = search needs
@@ -61,13 +54,13 @@ same-length-3 : tie.Need-same-length-3
 same-length-3 c = search needs
 
 returns-3 : tie.Need-returns-3
-returns-3 c = rw (c .before .before .before .before .before .before .before .before .before .before .subject .given .1) (put-then (c .before .before .before .before .before .before .put-text3 .ensures) (c .before .before .put-decimal .ensures))
+returns-3 c = rw (c .before .before .before .before .before .before .subject .given .1) (c .before .before .put-labelled .ensures .0)
 
 same-length-4 : tie.Need-same-length-4
 same-length-4 c = search needs
 
 returns-4 : tie.Need-returns-4
-returns-4 c = rw (c .before .before .before .before .before .before .before .before .before .before .subject2 .given .1) (put-then (c .before .before .before .before .before .before .put-text4 .ensures) (c .before .before .put-decimal2 .ensures))
+returns-4 c = rw (c .before .before .before .before .before .before .subject2 .given .1) (c .before .before .put-labelled2 .ensures .0)
 
 pub put-subject-spec : {M : Type 1} → statement M
 put-subject-spec =
@@ -80,13 +73,11 @@ put-subject-spec =
     slice-aggregate-put-text-2
     put-text-requires-2
     enum-known-subject
-    slice-aggregate-put-text-3
-    put-text-requires-3
-    put-decimal-requires
+    slice-aggregate-put-labelled
+    put-labelled-requires
     enum-known-subject-2
-    slice-aggregate-put-text-4
-    put-text-requires-4
-    put-decimal-requires-2
+    slice-aggregate-put-labelled-2
+    put-labelled-requires-2
     same-length
     returns
     same-length-2

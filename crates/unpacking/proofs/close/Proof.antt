@@ -16,6 +16,10 @@ use borrow.Author.Needs.{needs}
 use Rattle.unpacking.proofs.close.Statement.{statement}
 use Rattle.unpacking.proofs.close.Tie as tie
 
+-- from one place of the code back to another
+abbrev start-of-with-open : tie.After-with-open → tie.Start
+start-of-with-open c = c .before .before .before
+
 with-open-requires : tie.Need-with-open-requires
 with-open-requires c κs = search needs
 
@@ -30,9 +34,12 @@ over-requires c κs = search needs
 
 returns : tie.Need-returns
 returns c =
-    let p = awaits (c .before .before .before .before .before .before .before .args .place) wait.Nothing in
-    let none = sym (c .before .before .is-none .ensures ∙ ap isNone (c .before .before .before .before .with-open .ensures)) ∙ c .before .if1 .taken in
-    gives p (c .before .before .before .awaiting .ensures) tt (ended p (rw none refl) (c .before .before .before .awaiting .ensures) (c .over .ensures))
+    let at-awaiting = c .before .before .before in
+    let at-with-open = at-awaiting .before in
+    let at-start = start-of-with-open at-with-open in
+    let p = awaits (at-start .args .place) wait.Nothing in
+    let none = sym (c .before .before .is-none .ensures ∙ ap isNone (at-with-open .with-open .ensures)) ∙ c .before .if1 .taken in
+    gives p (at-awaiting .awaiting .ensures) tt (ended p (rw none refl) (at-awaiting .awaiting .ensures) (c .over .ensures))
 
 put-losses-requires : tie.Need-put-losses-requires
 put-losses-requires c κs = search needs
@@ -45,13 +52,19 @@ same-length c = search needs
 
 returns-2 : tie.Need-returns-2
 returns-2 c =
-    let p = awaits (c .before .before .before .before .before .before .before .before .before .before .before .args .place) wait.Nothing in
-    let lost = withOpen (c .before .before .before .before .before .before .before .before .before .before .before .args .place .losses) (c .before .before .before .before .before .before .before .before .before .before .before .args .place .state .«open») in
-    let some = sym (c .before .before .before .before .before .before .is-none .ensures ∙ ap isNone (c .before .before .before .before .before .before .before .before .with-open .ensures)) ∙ c .before .before .before .before .before .if1 .left in
-    gives p (c .before .before .before .before .before .before .before .awaiting .ensures) tt
-    (turned (tells p (lossesLine lost) 0) (rw some refl) (c .before .before .before .before .before .before .before .awaiting .ensures)
-    (c .tell .ensures ∙ ap (λ (n : ℕ). record { more = true; write = 0; say = n; read = 0 }) (c .before .before .before .put-losses .ensures .0 ∙ ap (λ (l : Losses). length (lossesLine l)) (c .before .before .before .before .before .before .before .before .with-open .ensures)))
-    (c .before .before .before .put-losses .ensures .1 ∙ ap (λ (l : Losses). front (lossesLine l) (c .before .before .before .before .before .before .before .before .before .before .before .args .line .now)) (c .before .before .before .before .before .before .before .before .with-open .ensures))
+    let at-put-losses = c .before .before .before in
+    let at-else1 = at-put-losses .before .before in
+    let at-is-none = at-else1 .before in
+    let at-awaiting = at-is-none .before in
+    let at-with-open = at-awaiting .before in
+    let at-start = start-of-with-open at-with-open in
+    let p = awaits (at-start .args .place) wait.Nothing in
+    let lost = withOpen (at-start .args .place .losses) (at-start .args .place .state .«open») in
+    let some = sym (at-is-none .is-none .ensures ∙ ap isNone (at-with-open .with-open .ensures)) ∙ at-else1 .if1 .left in
+    gives p (at-awaiting .awaiting .ensures) tt
+    (turned (tells p (lossesLine lost) 0) (rw some refl) (at-awaiting .awaiting .ensures)
+    (c .tell .ensures ∙ ap (λ (n : ℕ). record { more = true; write = 0; say = n; read = 0 }) (at-put-losses .put-losses .ensures .0 ∙ ap (λ (l : Losses). length (lossesLine l)) (at-with-open .with-open .ensures)))
+    (at-put-losses .put-losses .ensures .1 ∙ ap (λ (l : Losses). front (lossesLine l) (at-start .args .line .now)) (at-with-open .with-open .ensures))
     (omega arith) (omega arith) (losses-short lost))
 
 pub close-spec : {M : Type 1} → statement M

@@ -1,18 +1,38 @@
-use mathlib.Core.Path.{refl, sym, ap, _∙_}
-use lib.ListN.{take}
-use Rattle.train.specs.Train.{lengthWidth, lengthOf, headOf}
+use mathlib.Core.Path.{refl, sym, ap}
 use Rattle.turns.specs.Orders.{says}
 use Rattle.turns.specs.declared.Subject.{Subject}
 use Rattle.turns.specs.declared.Word.the-variants as word
 use Rattle.turns.proofs.Orders.{came-part}
 use Rattle.turns.proofs.Turning.{ended}
-use Rattle.unpacking.specs.Unpack.{stepOf}
 use Rattle.unpacking.specs.Steps.{awaits}
 use Rattle.unpacking.specs.declared.Wait.the-variants as wait
-use Rattle.unpacking.proofs.Turning.{gives, gives-as, version-quiet, length-quiet, close-quiet, body-written, stepped}
+use Rattle.unpacking.proofs.Turning.{possible-by, gives, stays, by-wait}
 use borrow.Author.Needs.{needs}
 use Rattle.unpacking.proofs.step.Statement.{statement}
 use Rattle.unpacking.proofs.step.Tie as tie
+
+-- ---- places, each by the one that follows it
+
+abbrev at-start : tie.After-slice-known3 → tie.Start
+at-start c = c .before .before .before .before
+
+-- bytes were read
+abbrev at-read : tie.After-known-told → tie.After-came
+at-read c = c .before
+
+abbrev start : tie.After-known-told → tie.Start
+start c = at-start (at-read c .before .before)
+
+abbrev at-version : tie.After-version-step → tie.After-enum-told3
+at-version c = c .before .before .before
+
+abbrev at-length : tie.After-length-step → tie.After-enum-told4
+at-length c = c .before .before .before
+
+abbrev at-body : tie.After-body-step → tie.After-wait
+at-body c = c .before .before .before .before .before .before
+
+-- ---- the needs
 
 enum-told : tie.Need-enum-told
 enum-told c = search needs
@@ -39,7 +59,9 @@ enum-told-3 : tie.Need-enum-told-3
 enum-told-3 c = search needs
 
 slice-aggregate-version-step : tie.Need-slice-aggregate-version-step
-slice-aggregate-version-step c = came-part (c .before .before .before .before .before .before .before .before .before .before .args .input .now) (c .before .before .before .before .came .given .1) (c .before .before .before .before .before .before .before .before .before .before .pre .came-within) (c .before .before .before .before .before .before .before .before .before .before .pre .input-is)
+slice-aggregate-version-step c =
+    let k = c .before .before .before in
+    came-part (start k .args .input .now) (at-read k .came .given .1) (start k .pre .came-within) (start k .pre .input-is)
 
 version-step-requires : tie.Need-version-step-requires
 version-step-requires c κs = search needs
@@ -48,19 +70,30 @@ enum-told-4 : tie.Need-enum-told-4
 enum-told-4 c = search needs
 
 slice-aggregate-length-step : tie.Need-slice-aggregate-length-step
-slice-aggregate-length-step c = came-part (c .before .before .before .before .before .before .before .before .before .before .args .input .now) (c .before .before .before .before .came .given .1) (c .before .before .before .before .before .before .before .before .before .before .pre .came-within) (c .before .before .before .before .before .before .before .before .before .before .pre .input-is)
+slice-aggregate-length-step c =
+    let k = c .before .before .before in
+    came-part (start k .args .input .now) (at-read k .came .given .1) (start k .pre .came-within) (start k .pre .input-is)
 
 length-step-requires : tie.Need-length-step-requires
-length-step-requires c κs = search needs
+length-step-requires c κs =
+    let e = c .before .before in
+    let s = start (e .before .before) in
+    (s .pre .line-is, possible-by (s .args .place) (e .enum-told4 .given .1) (s .pre .possible))
 
 enum-known-wait : tie.Need-enum-known-wait
 enum-known-wait c = search needs
 
 slice-aggregate-body-step : tie.Need-slice-aggregate-body-step
-slice-aggregate-body-step c = came-part (c .before .before .before .before .before .before .before .before .before .before .before .args .input .now) (c .before .before .before .before .before .came .given .1) (c .before .before .before .before .before .before .before .before .before .before .before .pre .came-within) (c .before .before .before .before .before .before .before .before .before .before .before .pre .input-is)
+slice-aggregate-body-step c =
+    let k = c .before .before .before .before in
+    came-part (start k .args .input .now) (at-read k .came .given .1) (start k .pre .came-within) (start k .pre .input-is)
 
 body-step-requires : tie.Need-body-step-requires
-body-step-requires c κs = (rw (c .before .before .before .before .before .wait .given .1) at (c .before .before .before .before .before .before .before .before .before .before .before .before .before .before .pre .possible), c .before .before .before .before .before .before .before .before .before .before .before .before .before .before .pre .out-is, c .before .before .before .before .before .before .before .before .before .before .before .before .before .before .pre .line-is)
+body-step-requires c κs =
+    let w = c .before .before .before .before .before in
+    let s = start (w .before .before) in
+    let possible = possible-by (s .args .place) (w .wait .given .1) (s .pre .possible) in
+    (possible .0, s .pre .out-is, s .pre .line-is, possible .1)
 
 enum-told-5 : tie.Need-enum-told-5
 enum-told-5 c = search needs
@@ -79,34 +112,46 @@ same-length c = search needs
 
 returns : tie.Need-returns
 returns c =
-    rw (c .before .before .before .before .before .enum-told .given .1)
-    (gives-as (ap (λ (s : Subject). says (awaits (c .before .before .before .before .before .before .before .before .before .before .before .args .place) wait.Nothing) s word.ReadFailed 0) (sym (c .before .before .before .before .read-subject .ensures))) (c .before .before .say .ensures), refl, refl)
+    let k = c .before .before in
+    let about = k .before .before in
+    let p = at-start (about .before .before .before) .args .place in
+    rw (about .before .enum-told .given .1)
+    (stays (ap (λ (s : Subject). says (awaits p wait.Nothing) s word.ReadFailed 0) (sym (about .read-subject .ensures))) (k .say .ensures))
 
 same-length-2 : tie.Need-same-length-2
 same-length-2 c = search needs
 
 returns-2 : tie.Need-returns-2
 returns-2 c =
-    rw (c .before .before .before .before .before .enum-told2 .given .1)
-    (gives-as (ap (λ (s : Subject). says (awaits (c .before .before .before .before .before .before .before .before .before .before .before .args .place) wait.Nothing) s word.WriteFailed 0) (sym (c .before .before .before .before .written-subject .ensures))) (c .before .before .say2 .ensures), refl, refl)
+    let k = c .before .before in
+    let about = k .before .before in
+    let p = at-start (about .before .before .before) .args .place in
+    rw (about .before .enum-told2 .given .1)
+    (stays (ap (λ (s : Subject). says (awaits p wait.Nothing) s word.WriteFailed 0) (sym (about .written-subject .ensures))) (k .say2 .ensures))
 
 same-length-3 : tie.Need-same-length-3
 same-length-3 c = search needs
 
 returns-3 : tie.Need-returns-3
 returns-3 c =
-    let a = c .before .before .before .before .before .before .before .before .before .before .before .before .before .before .args in
-    stepped (a .place) (a .came) _ wait.Version (a .input .now) (a .store .now) (a .out .now) (c .before .before .before .before .before .before .before .before .came .given .1) (c .before .before .before .before .before .enum-told3 .given .1)
-    (c .before .before .version-step .ensures) refl (version-quiet (a .place) (headOf (take (c .before .before .before .before .before .before .before .before .came .given .0 .0) (a .input .now))) (a .out .now))
+    let v = c .before .before in
+    let e = at-version v in
+    let k = e .before .before in
+    let a = start k .args in
+    by-wait (a .place) (a .input .now) (a .store .now) (a .out .now) (at-read k .came .given .1) (e .enum-told3 .given .1)
+    (stays refl (v .version-step .ensures))
 
 same-length-4 : tie.Need-same-length-4
 same-length-4 c = search needs
 
 returns-4 : tie.Need-returns-4
 returns-4 c =
-    let a = c .before .before .before .before .before .before .before .before .before .before .before .before .before .before .args in
-    stepped (a .place) (a .came) _ wait.Length (a .input .now) (a .store .now) (a .out .now) (c .before .before .before .before .before .before .before .before .came .given .1) (c .before .before .before .before .before .enum-told4 .given .1)
-    (c .before .before .length-step .ensures) refl (length-quiet (a .place) (lengthOf lengthWidth (take (c .before .before .before .before .before .before .before .before .came .given .0 .0) (a .input .now))) (a .out .now))
+    let l = c .before .before in
+    let e = at-length l in
+    let k = e .before .before in
+    let a = start k .args in
+    by-wait (a .place) (a .input .now) (a .store .now) (a .out .now) (at-read k .came .given .1) (e .enum-told4 .given .1)
+    (stays refl (l .length-step .ensures))
 
 same-length-5 : tie.Need-same-length-5
 same-length-5 c = search needs
@@ -119,24 +164,32 @@ same-length-7 c = search needs
 
 returns-5 : tie.Need-returns-5
 returns-5 c =
-    let a = c .before .before .before .before .before .before .before .before .before .before .before .before .before .before .before .before .before .before .before .before .before .args in
-    stepped (a .place) (a .came) _ (wait.Body _) (a .input .now) (a .store .now) (a .out .now) (c .before .before .before .before .before .before .before .before .before .before .before .before .before .before .before .came .given .1) (c .before .before .before .before .before .before .before .before .before .before .before .before .wait .given .1)
-    (c .before .before .before .before .before .before .body-step .ensures .0) (c .before .before .before .before .before .before .body-step .ensures .1) (c .before .before .before .before .before .before .body-step .ensures .2 ∙ body-written (a .place) (stepOf (a .place .state) (c .before .before .before .before .before .before .before .before .before .before .before .before .wait .given .0 .0) (take (c .before .before .before .before .before .before .before .before .before .before .before .before .before .before .before .came .given .0 .0) (a .input .now)) (a .store .now) (a .out .now)) (a .out .now))
+    let b = c .before .before .before .before .before .before in
+    let w = at-body b in
+    let k = w .before .before in
+    let a = start k .args in
+    by-wait (a .place) (a .input .now) (a .store .now) (a .out .now) (at-read k .came .given .1) (w .wait .given .1)
+    (b .body-step .ensures)
 
 same-length-8 : tie.Need-same-length-8
 same-length-8 c = search needs
 
 returns-6 : tie.Need-returns-6
 returns-6 c =
-    let a = c .before .before .before .before .before .before .before .before .before .before .before .before .before .args in
-    stepped (a .place) (a .came) _ wait.Close (a .input .now) (a .store .now) (a .out .now) (c .before .before .before .before .before .before .before .came .given .1) (c .before .before .before .before .enum-told5 .given .1)
-    (c .before .before .close .ensures) refl (close-quiet (a .place) (a .out .now))
+    let l = c .before .before in
+    let e = l .before .before in
+    let k = e .before .before in
+    let a = start k .args in
+    by-wait (a .place) (a .input .now) (a .store .now) (a .out .now) (at-read k .came .given .1) (e .enum-told5 .given .1)
+    (stays refl (l .close .ensures))
 
 returns-7 : tie.Need-returns-7
 returns-7 c =
-    let a = c .before .before .before .before .before .before .before .before .before .before .args in
-    stepped (a .place) (a .came) _ wait.Nothing (a .input .now) (a .store .now) (a .out .now) (c .before .before .before .before .came .given .1) (c .before .enum-told6 .given .1)
-    (gives (a .place) refl (rw (c .before .enum-told6 .given .1) tt) (ended (a .place) refl refl (c .over .ensures))) refl refl
+    let e = c .before in
+    let k = e .before .before in
+    let a = start k .args in
+    by-wait (a .place) (a .input .now) (a .store .now) (a .out .now) (at-read k .came .given .1) (e .enum-told6 .given .1)
+    (stays refl (gives (a .place) refl (possible-by (a .place) (sym (e .enum-told6 .given .1)) tt) (ended (a .place) refl refl (c .over .ensures))))
 
 pub step-spec : {M : Type 1} → statement M
 step-spec =

@@ -1,25 +1,29 @@
 use Prim.Native.Nat.{_-_}
+use lib.ListN.{length}
 use borrow.Author.Needs.{needs}
 use Rattle.vectors.proofs.print_records.Statement.{statement}
 use Rattle.vectors.proofs.print_records.Tie as tie
 
 abbrev Inv-loop : tie.InvT-loop
-Inv-loop list obus end k₀ k = Unit {0}
+Inv-loop list width k₀ k = Unit {0}
 
 abbrev μ-loop : tie.MeasureT-loop
-μ-loop list obus end k₀ k = end - k
-
-smaller-requires : tie.Need-smaller-requires Inv-loop μ-loop
-smaller-requires c κs = search needs
-
-mul-end : tie.Need-mul-end Inv-loop μ-loop
-mul-end c = search needs
+μ-loop list width k₀ k = length list - k
 
 loop-holds : tie.Need-loop-holds Inv-loop μ-loop
 loop-holds c = search needs
 
-print-at-requires : tie.Need-print-at-requires Inv-loop μ-loop
-print-at-requires c κs = search needs
+print-mark-requires : tie.Need-print-mark-requires Inv-loop μ-loop
+print-mark-requires c κs = search needs
+
+mul-print-number : tie.Need-mul-print-number Inv-loop μ-loop
+mul-print-number c = search needs
+
+shared-slice-read-print-number : tie.Need-shared-slice-read-print-number Inv-loop μ-loop
+shared-slice-read-print-number c = search needs
+
+print-number-requires : tie.Need-print-number-requires Inv-loop μ-loop
+print-number-requires c κs = search needs
 
 add-k : tie.Need-add-k Inv-loop μ-loop
 add-k c = search needs
@@ -39,10 +43,11 @@ print-records-spec =
     (tie.spec
     Inv-loop
     μ-loop
-    smaller-requires
-    mul-end
     loop-holds
-    print-at-requires
+    print-mark-requires
+    mul-print-number
+    shared-slice-read-print-number
+    print-number-requires
     add-k
     loop-less
     loop-again

@@ -16,22 +16,22 @@ shared-slice-read-if2 c = search needs
 returns-2 : tie.Need-returns-2
 returns-2 c = head-other (c .before .before .before .before .args .head .now) (c .before .before .if1 .left) (c .if2 .taken)
 
-two-bytes-requires : tie.Need-two-bytes-requires
-two-bytes-requires c κs = search needs
+number-at-requires : tie.Need-number-at-requires
+number-at-requires c κs = search needs
 
-cast-mtu : tie.Need-cast-mtu
-cast-mtu c = search needs
+add-number-at : tie.Need-add-number-at
+add-number-at c = search needs
 
-four-bytes-requires : tie.Need-four-bytes-requires
-four-bytes-requires c κs = search needs
+number-at-requires-2 : tie.Need-number-at-requires-2
+number-at-requires-2 c κs = search needs
 
 returns-3 : tie.Need-returns-3
-returns-3 c = head-long (c .before .before .before .before .before .before .before .args .head .now) (c .before .before .before .before .before .if1 .left) (c .before .before .before .if2 .left) (omega (arith, c .before .four-bytes .ensures, c .if3 .taken))
+returns-3 c = head-long (c .before .before .before .before .before .before .before .args .head .now) (c .before .before .before .before .before .if1 .left) (c .before .before .before .if2 .left) (omega (arith, c .before .number-at2 .ensures .is, c .if3 .taken))
 
 returns-4 : tie.Need-returns-4
 returns-4 c =
-    ap₂ (λ (m n : ℕ). states (record { mtu = m; length = n })) (c .before .before .two-bytes .ensures) (c .before .four-bytes .ensures)
-    ∙ head-good (c .before .before .before .before .before .before .before .args .head .now) (c .before .before .before .before .before .if1 .left) (c .before .before .before .if2 .left) (omega (arith, c .before .four-bytes .ensures, c .if3 .left))
+    ap₂ (λ (m n : ℕ). states (record { mtu = m; length = n })) (c .before .before .number-at .ensures .is) (c .before .number-at2 .ensures .is)
+    ∙ head-good (c .before .before .before .before .before .before .before .args .head .now) (c .before .before .before .before .before .if1 .left) (c .before .before .before .if2 .left) (omega (arith, c .before .number-at2 .ensures .is, c .if3 .left))
 
 pub read-head-spec : {M : Type 1} → statement M
 read-head-spec =
@@ -40,8 +40,8 @@ read-head-spec =
     returns
     shared-slice-read-if2
     returns-2
-    two-bytes-requires
-    cast-mtu
-    four-bytes-requires
+    number-at-requires
+    add-number-at
+    number-at-requires-2
     returns-3
     returns-4)

@@ -1,80 +1,80 @@
 use native.Mathlib.Omega.{arith}
+use borrow.Author.Needs.{needs}
 use Rattle.base.specs.Lists.{Put}
 use Rattle.base.proofs.Lists.{put-then}
 use Rattle.listing.specs.Row.{rowText}
 use Rattle.listing.proofs.Turning.{printed}
-use borrow.Author.Needs.{needs}
 use Rattle.listing.proofs.text.put_row.Statement.{statement}
 use Rattle.listing.proofs.text.put_row.Tie as tie
 
-put-column-requires : tie.Need-put-column-requires
-put-column-requires c κs = search needs
+-- the calls, from the last back to the start
+abbrev at-text : tie.After-slice-known4 → tie.After-put-text
+at-text c = c .before .before
 
-cast-put-column : tie.Need-cast-put-column
-cast-put-column c = search needs
+abbrev at-byte : tie.After-put-text → tie.After-put-byte
+at-byte c = c .before .before .before .before .before
 
-put-column-requires-2 : tie.Need-put-column-requires-2
-put-column-requires-2 c κs = search needs
+abbrev at-columns : tie.After-put-byte → tie.After-put-columns
+at-columns c = c .before .before .before .before
 
-cast-put-column-2 : tie.Need-cast-put-column-2
-cast-put-column-2 c = search needs
+abbrev at-start : tie.After-put-columns → tie.Start
+at-start c = c .before .before .before .before .before .before .before .before .before
 
-put-column-requires-3 : tie.Need-put-column-requires-3
-put-column-requires-3 c κs = search needs
+cast-t8 : tie.Need-cast-t8
+cast-t8 c = search needs
 
-cast-put-column-3 : tie.Need-cast-put-column-3
-cast-put-column-3 c = search needs
+cast-t9 : tie.Need-cast-t9
+cast-t9 c = search needs
 
-put-column-requires-4 : tie.Need-put-column-requires-4
-put-column-requires-4 c κs = search needs
+cast-t10 : tie.Need-cast-t10
+cast-t10 c = search needs
 
-cast-put-column-4 : tie.Need-cast-put-column-4
-cast-put-column-4 c = search needs
+cast-t11 : tie.Need-cast-t11
+cast-t11 c = search needs
 
-put-column-requires-5 : tie.Need-put-column-requires-5
-put-column-requires-5 c κs = search needs
+cast-t12 : tie.Need-cast-t12
+cast-t12 c = search needs
 
-cast-put-column-5 : tie.Need-cast-put-column-5
-cast-put-column-5 c = search needs
+slice-aggregate-put-columns : tie.Need-slice-aggregate-put-columns
+slice-aggregate-put-columns c = search needs
 
-put-column-requires-6 : tie.Need-put-column-requires-6
-put-column-requires-6 c κs = omega (arith, c .before .before .before .before .before .before .before .before .before .before .before .before .before .before .before .before .before .before .before .before .before .before .before .before .before .before .before .pre, c .before .before .before .before .before .before .before .before .before .before .before .before .before .before .before .before .before .before .before .before .before .before .before .before .put-column, c .before .before .before .before .before .before .before .before .before .before .before .before .before .before .before .before .before .before .before .put-column2, c .before .before .before .before .before .before .before .before .before .before .before .before .before .before .put-column3, c .before .before .before .before .before .before .before .before .before .put-column4, c .before .before .before .before .put-column5)
+put-columns-requires : tie.Need-put-columns-requires
+put-columns-requires c κs = search needs
 
 put-byte-requires : tie.Need-put-byte-requires
-put-byte-requires c κs = omega (arith, c .before .before .before .before .before .before .before .before .before .before .before .before .before .before .before .before .before .before .before .before .before .before .before .before .before .before .before .before .before .before .before .pre, c .before .before .before .before .before .before .before .before .before .before .before .before .before .before .before .before .before .before .before .before .before .before .before .before .before .before .before .before .put-column, c .before .before .before .before .before .before .before .before .before .before .before .before .before .before .before .before .before .before .before .before .before .before .before .put-column2, c .before .before .before .before .before .before .before .before .before .before .before .before .before .before .before .before .before .before .put-column3, c .before .before .before .before .before .before .before .before .before .before .before .before .before .put-column4, c .before .before .before .before .before .before .before .before .put-column5, c .before .before .before .put-column6)
+put-byte-requires c κs = search needs
 
 slice-aggregate-put-text : tie.Need-slice-aggregate-put-text
 slice-aggregate-put-text c = search needs
 
 put-text-requires : tie.Need-put-text-requires
-put-text-requires c κs = omega (arith, c .before .before .before .before .before .before .before .before .before .before .before .before .before .before .before .before .before .before .before .before .before .before .before .before .before .before .before .before .before .before .before .before .before .before .before .before .pre, c .before .before .before .before .before .before .before .before .before .before .before .before .before .before .before .before .before .before .before .before .before .before .before .before .before .before .before .before .before .before .before .before .before .put-column, c .before .before .before .before .before .before .before .before .before .before .before .before .before .before .before .before .before .before .before .before .before .before .before .before .before .before .before .before .put-column2, c .before .before .before .before .before .before .before .before .before .before .before .before .before .before .before .before .before .before .before .before .before .before .before .put-column3, c .before .before .before .before .before .before .before .before .before .before .before .before .before .before .before .before .before .before .put-column4, c .before .before .before .before .before .before .before .before .before .before .before .before .before .put-column5, c .before .before .before .before .before .before .before .before .put-column6, c .before .before .before .before .put-byte)
+put-text-requires c κs = search needs
 
 same-length : tie.Need-same-length
-same-length c = omega (arith, c .before .before .before .before .before .before .before .before .before .before .before .before .before .before .before .before .before .before .before .before .before .before .before .before .before .before .before .before .before .before .before .before .before .before .before .before .put-column, c .before .before .before .before .before .before .before .before .before .before .before .before .before .before .before .before .before .before .before .before .before .before .before .before .before .before .before .before .before .before .before .put-column2, c .before .before .before .before .before .before .before .before .before .before .before .before .before .before .before .before .before .before .before .before .before .before .before .before .before .before .put-column3, c .before .before .before .before .before .before .before .before .before .before .before .before .before .before .before .before .before .before .before .before .before .put-column4, c .before .before .before .before .before .before .before .before .before .before .before .before .before .before .before .before .put-column5, c .before .before .before .before .before .before .before .before .before .before .before .put-column6, c .before .before .before .before .before .before .before .put-byte, c .before .before .put-text)
+same-length c = search needs
 
 returns : tie.Need-returns
 unfolding rowText
 returns c =
-    let a = c .before .before .before .before .before .before .before .before .before .before .before .before .before .before .before .before .before .before .before .before .before .before .before .before .before .before .before .before .before .before .before .before .before .before .before .before .before .before .before .args in
-    let all : Put (a .out .now) _ 0 _ (rowText (a .row)) =
-    put-then (c .before .before .before .before .before .before .before .before .before .before .before .before .before .before .before .before .before .before .before .before .before .before .before .before .before .before .before .before .before .before .before .before .before .before .before .before .put-column .ensures .0) (put-then (c .before .before .before .before .before .before .before .before .before .before .before .before .before .before .before .before .before .before .before .before .before .before .before .before .before .before .before .before .before .before .before .put-column2 .ensures .0) (put-then (c .before .before .before .before .before .before .before .before .before .before .before .before .before .before .before .before .before .before .before .before .before .before .before .before .before .before .put-column3 .ensures .0) (put-then (c .before .before .before .before .before .before .before .before .before .before .before .before .before .before .before .before .before .before .before .before .before .put-column4 .ensures .0) (put-then (c .before .before .before .before .before .before .before .before .before .before .before .before .before .before .before .before .put-column5 .ensures .0) (put-then (c .before .before .before .before .before .before .before .before .before .before .before .put-column6 .ensures .0) (put-then (c .before .before .before .before .before .before .before .put-byte .ensures) (c .before .before .put-text .ensures))))))) in
-    printed all (c .before .before .before .before .before .before .before .before .before .before .before .before .before .before .before .before .before .before .before .before .before .before .before .before .before .before .before .before .before .before .before .before .before .before .before .before .before .before .before .pre) (omega (arith, all .cursor, c .before .before .before .before .before .before .before .before .before .before .before .before .before .before .before .before .before .before .before .before .before .before .before .before .before .before .before .before .before .before .before .before .before .before .before .before .put-column .ensures .1, c .before .before .before .before .before .before .before .before .before .before .before .before .before .before .before .before .before .before .before .before .before .before .before .before .before .before .before .before .before .before .before .put-column2 .ensures .1, c .before .before .before .before .before .before .before .before .before .before .before .before .before .before .before .before .before .before .before .before .before .before .before .before .before .before .put-column3 .ensures .1, c .before .before .before .before .before .before .before .before .before .before .before .before .before .before .before .before .before .before .before .before .before .put-column4 .ensures .1, c .before .before .before .before .before .before .before .before .before .before .before .before .before .before .before .before .put-column5 .ensures .1, c .before .before .before .before .before .before .before .before .before .before .before .put-column6 .ensures .1, c .before .before .before .before .before .before .before .put-byte .ensures .cursor, c .before .before .put-text .ensures .cursor, c .before .before .before .before .before .before .before .before .before .before .before .before .before .before .before .before .before .before .before .before .before .before .before .before .before .before .before .before .before .before .before .before .before .before .before .before .before .before .before .pre))
+    let text = at-text c in
+    let byte = at-byte text in
+    let columns = at-columns byte in
+    let start = at-start columns in
+    let all : Put (start .args .out .now) _ 0 _ (rowText (start .args .row)) =
+    put-then (columns .put-columns .ensures .0) (put-then (byte .put-byte .ensures) (text .put-text .ensures)) in
+    printed all (start .pre) (omega (arith, all .cursor, columns .put-columns .ensures .1, byte .put-byte .ensures .cursor, text .put-text .ensures .cursor))
 
 pub put-row-spec : {M : Type 1} → statement M
 put-row-spec =
     tie.close
     (tie.spec
-    put-column-requires
-    cast-put-column
-    put-column-requires-2
-    cast-put-column-2
-    put-column-requires-3
-    cast-put-column-3
-    put-column-requires-4
-    cast-put-column-4
-    put-column-requires-5
-    cast-put-column-5
-    put-column-requires-6
+    cast-t8
+    cast-t9
+    cast-t10
+    cast-t11
+    cast-t12
+    slice-aggregate-put-columns
+    put-columns-requires
     put-byte-requires
     slice-aggregate-put-text
     put-text-requires

@@ -1,30 +1,36 @@
 use native.Mathlib.Omega.{arith}
 use Rattle.base.specs.Lists.{Put}
 use Rattle.base.proofs.Lists.{put-then}
-use Rattle.turns.proofs.Digits.{decimal-short}
 use Rattle.listing.specs.Listing.{twoNumbers}
 use Rattle.listing.proofs.Turning.{printed}
 use borrow.Author.Needs.{needs}
 use Rattle.listing.proofs.text.put_two.Statement.{statement}
 use Rattle.listing.proofs.text.put_two.Tie as tie
 
-put-text-requires : tie.Need-put-text-requires
-put-text-requires c κs = search needs
+-- the calls, from the last back to the start
+abbrev at-text : tie.After-slice-known4 → tie.After-put-text
+at-text c = c .before .before
 
-put-decimal-requires : tie.Need-put-decimal-requires
-put-decimal-requires c κs = search needs
+abbrev at-second : tie.After-put-text → tie.After-put-labelled2
+at-second c = c .before .before .before .before .before
 
-put-text-requires-2 : tie.Need-put-text-requires-2
-put-text-requires-2 c κs = omega (arith, c .before .before .before .before .before .before .before .put-text .ensures .cursor, c .before .before .before .put-decimal .ensures .cursor, decimal-short (c .before .before .before .before .before .before .before .before .before .before .before .before .args .m))
+abbrev at-first : tie.After-put-labelled2 → tie.After-put-labelled
+at-first c = c .before .before .before .before
 
-put-decimal-requires-2 : tie.Need-put-decimal-requires-2
-put-decimal-requires-2 c κs = omega (arith, c .before .before .before .before .before .before .before .before .before .before .before .put-text .ensures .cursor, c .before .before .before .before .before .before .before .put-decimal .ensures .cursor, c .before .before .before .put-text2 .ensures .cursor, decimal-short (c .before .before .before .before .before .before .before .before .before .before .before .before .before .before .before .before .args .m))
+abbrev at-start : tie.After-put-labelled → tie.Start
+at-start c = c .before .before .before .before .before
+
+put-labelled-requires : tie.Need-put-labelled-requires
+put-labelled-requires c κs = search needs
+
+put-labelled-requires-2 : tie.Need-put-labelled-requires-2
+put-labelled-requires-2 c κs = search needs
 
 slice-aggregate-put-text : tie.Need-slice-aggregate-put-text
 slice-aggregate-put-text c = search needs
 
-put-text-requires-3 : tie.Need-put-text-requires-3
-put-text-requires-3 c κs = omega (arith, c .before .before .before .before .before .before .before .before .before .before .before .before .before .before .before .before .put-text .ensures .cursor, c .before .before .before .before .before .before .before .before .before .before .before .before .put-decimal .ensures .cursor, c .before .before .before .before .before .before .before .before .put-text2 .ensures .cursor, c .before .before .before .before .put-decimal2 .ensures .cursor, decimal-short (c .before .before .before .before .before .before .before .before .before .before .before .before .before .before .before .before .before .before .before .before .before .args .m), decimal-short (c .before .before .before .before .before .before .before .before .before .before .before .before .before .before .before .before .before .before .before .before .before .args .n))
+put-text-requires : tie.Need-put-text-requires
+put-text-requires c κs = search needs
 
 same-length : tie.Need-same-length
 same-length c = search needs
@@ -32,20 +38,21 @@ same-length c = search needs
 returns : tie.Need-returns
 unfolding twoNumbers
 returns c =
-    let a = c .before .before .before .before .before .before .before .before .before .before .before .before .before .before .before .before .before .before .before .before .before .before .before .before .args in
-    let all : Put (a .out .now) _ 0 _ (twoNumbers (a .first .now) (a .m) (a .second .now) (a .n)) =
-    put-then (c .before .before .before .before .before .before .before .before .before .before .before .before .before .before .before .before .before .before .before .put-text .ensures) (put-then (c .before .before .before .before .before .before .before .before .before .before .before .before .before .before .before .put-decimal .ensures) (put-then (c .before .before .before .before .before .before .before .before .before .before .before .put-text2 .ensures) (put-then (c .before .before .before .before .before .before .before .put-decimal2 .ensures) (c .before .before .put-text3 .ensures)))) in
-    printed all (c .before .before .before .before .before .before .before .before .before .before .before .before .before .before .before .before .before .before .before .before .before .before .before .before .pre .0) (omega (arith, all .cursor, c .before .before .before .before .before .before .before .before .before .before .before .before .before .before .before .before .before .before .before .put-text .ensures .cursor, c .before .before .before .before .before .before .before .before .before .before .before .before .before .before .before .put-decimal .ensures .cursor, c .before .before .before .before .before .before .before .before .before .before .before .put-text2 .ensures .cursor, c .before .before .before .before .before .before .before .put-decimal2 .ensures .cursor, c .before .before .put-text3 .ensures .cursor, decimal-short (a .m), decimal-short (a .n), c .before .before .before .before .before .before .before .before .before .before .before .before .before .before .before .before .before .before .before .before .before .before .before .before .pre))
+    let text = at-text c in
+    let second = at-second text in
+    let first = at-first second in
+    let start = at-start first in
+    let all : Put (start .args .out .now) _ 0 _ (twoNumbers (start .args .first .now) (start .args .m) (start .args .second .now) (start .args .n)) =
+    put-then (first .put-labelled .ensures .0) (put-then (second .put-labelled2 .ensures .0) (text .put-text .ensures)) in
+    printed all (start .pre .0) (omega (arith, first .put-labelled .ensures .1, second .put-labelled2 .ensures .1, text .put-text .ensures .cursor, start .pre .1))
 
 pub put-two-spec : {M : Type 1} → statement M
 put-two-spec =
     tie.close
     (tie.spec
-    put-text-requires
-    put-decimal-requires
-    put-text-requires-2
-    put-decimal-requires-2
+    put-labelled-requires
+    put-labelled-requires-2
     slice-aggregate-put-text
-    put-text-requires-3
+    put-text-requires
     same-length
     returns)

@@ -12,17 +12,20 @@ shared-slice-read-if2 c = search needs
 returns-2 : tie.Need-returns-2
 returns-2 c = head-other (c .before .before .before .before .args .bytes .now) (c .before .before .if1 .left) (c .if2 .taken)
 
-two-bytes-requires : tie.Need-two-bytes-requires
-two-bytes-requires c κs = search needs
+number-at-requires : tie.Need-number-at-requires
+number-at-requires c κs = search needs
 
-cast-t2 : tie.Need-cast-t2
-cast-t2 c = search needs
+add-number-at : tie.Need-add-number-at
+add-number-at c = search needs
 
-two-bytes-requires-2 : tie.Need-two-bytes-requires-2
-two-bytes-requires-2 c κs = search needs
+number-at-requires-2 : tie.Need-number-at-requires-2
+number-at-requires-2 c κs = search needs
+
+cast-t8 : tie.Need-cast-t8
+cast-t8 c = search needs
 
 returns-3 : tie.Need-returns-3
-returns-3 c = head-found (c .before .before .before .before .before .before .args .bytes .now) _ _ (c .before .before .before .before .if1 .left) (c .before .before .if2 .left) (c .before .two-bytes .ensures) (c .two-bytes2 .ensures)
+returns-3 c = head-found (c .before .before .before .before .before .before .args .bytes .now) _ _ (c .before .before .before .before .if1 .left) (c .before .before .if2 .left) (c .before .number-at .ensures .is) (c .number-at2 .ensures .is)
 
 pub read-pack-head-spec : {M : Type 1} → statement M
 read-pack-head-spec =
@@ -31,7 +34,8 @@ read-pack-head-spec =
     returns
     shared-slice-read-if2
     returns-2
-    two-bytes-requires
-    cast-t2
-    two-bytes-requires-2
+    number-at-requires
+    add-number-at
+    number-at-requires-2
+    cast-t8
     returns-3)

@@ -3,17 +3,29 @@ use Prim.Native.Nat.{ℕ}
 use native.Mathlib.Omega.{arith}
 use lib.ListN.{take}
 use lib.Seq.{length-take-le}
+use Rattle.payloader.specs.Call.{After}
 use Rattle.payloader.specs.Paper.{paper}
 use Rattle.packing.proofs.Units.{answer-is, unit-ready, begins-as, packed-one, unit-cut, unit-refused, unit-packed}
 use borrow.Author.Needs.{needs}
 use Rattle.packing.proofs.unit.pack_unit.Statement.{statement}
 use Rattle.packing.proofs.unit.pack_unit.Tie as tie
 
+-- from one place of the code back to another
+abbrev else1-of-payload : tie.After-payload → tie.Else1
+else1-of-payload c = c .before .before .before .before .before
+
+abbrev start-of-else1 : tie.Else1 → tie.Start
+start-of-else1 c = c .before .before .before .before .before
+
 returns : tie.Need-returns
-returns c = (unit-cut _ (c .before .before .before .before .before .args .mtu) (c .before .before .before .before .before .args .stated) (c .before .before .before .before .before .args .bytes .now) (c .if1 .taken), λ n e. let z : _≡_ {A = ℕ} 0 1 = cc in absurd (omega arith))
+returns c =
+    let at-start = c .before .before .before .before .before in
+    (unit-cut _ (at-start .args .mtu) (at-start .args .stated) (at-start .args .bytes .now) (c .if1 .taken), λ n e. let z : _≡_ {A = ℕ} 0 1 = cc in absurd (omega arith))
 
 slice-aggregate-payload : tie.Need-slice-aggregate-payload
-slice-aggregate-payload c = sym (length-take-le _ (c .before .before .before .before .before .before .args .bytes .now) (omega arith))
+slice-aggregate-payload c =
+    let at-start = c .before .before .before .before .before .before in
+    sym (length-take-le _ (at-start .args .bytes .now) (omega arith))
 
 payload-requires : tie.Need-payload-requires
 payload-requires c κs = search needs
@@ -35,9 +47,12 @@ same-length-3 c = search needs
 
 returns-2 : tie.Need-returns-2
 returns-2 c =
-    let a = c .before .before .before .before .before .before .before .before .before .before .before .before .before .before .before .before .before .before .before .args in (
-      unit-refused _ (a .mtu) (a .stated) (a .bytes .now) _ _ (c .before .before .before .before .before .before .before .before .before .before .before .before .before .before .if1 .left)
-          (sym (ap paper (c .before .refusal .given .1)) ∙ c .before .before .before .before .before .before .before .before .before .payload .ensures .0 ∙ answer-is (a .mtu) _ (a .obus .now) (a .plan .now) (a .out .now)),
+    let at-payload = c .before .before .before .before .before .before .before .before .before in
+    let at-else1 = else1-of-payload at-payload in
+    let at-start = start-of-else1 at-else1 in
+    let a = at-start .args in (
+      unit-refused _ (a .mtu) (a .stated) (a .bytes .now) _ _ (at-else1 .if1 .left)
+          (sym (ap paper (c .before .refusal .given .1)) ∙ ap (λ (x : After). x .answer) (at-payload .payload .ensures) ∙ answer-is (a .mtu) _ (a .obus .now) (a .plan .now) (a .out .now)),
       λ n e. let z : _≡_ {A = ℕ} 0 1 = cc in absurd (omega arith),
     )
 
@@ -52,13 +67,16 @@ same-length-6 c = search needs
 
 returns-3 : tie.Need-returns-3
 returns-3 c =
-    let a = c .before .before .before .before .before .before .before .before .before .before .before .before .before .before .before .before .before .before .before .args in
+    let at-payload = c .before .before .before .before .before .before .before .before .before in
+    let at-else1 = else1-of-payload at-payload in
+    let at-start = start-of-else1 at-else1 in
+    let a = at-start .args in
     let unit = take (a .stated) (a .bytes .now) in
     let p = c .before .written .given .0 .0 in
-    let e = sym (ap paper (c .before .written .given .1)) ∙ c .before .before .before .before .before .before .before .before .before .payload .ensures .0 in
-    let ready = unit-ready (a .mtu) unit (a .obus .now) (a .plan .now) (a .out .now) p e _ _ (c .before .before .before .before .before .before .before .before .before .payload .ensures .2) (c .before .before .before .before .before .before .before .before .before .payload .ensures .3) (c .before .before .before .before .before .before .before .before .before .payload .kept .1 .1 .1 .0) (c .before .before .before .before .before .before .before .before .before .payload .kept .1 .1 .1 .1 .0) in (
-      unit-packed _ (a .mtu) (a .stated) (a .bytes .now) p (p .packets) (c .before .before .before .before .before .before .before .before .before .before .before .before .before .before .if1 .left) (e ∙ answer-is (a .mtu) unit (a .obus .now) (a .plan .now) (a .out .now)) (ready .packets-is),
-      λ n f. begins-as (length-take-le (a .stated) (a .bytes .now) (c .before .before .before .before .before .before .before .before .before .before .before .before .before .before .if1 .left)) (packed-one f) ready,
+    let e = sym (ap paper (c .before .written .given .1)) ∙ ap (λ (x : After). x .answer) (at-payload .payload .ensures) in
+    let ready = unit-ready (a .mtu) unit (a .obus .now) (a .plan .now) (a .out .now) p e _ _ (ap (λ (x : After). x .plan) (at-payload .payload .ensures)) (ap (λ (x : After). x .out) (at-payload .payload .ensures)) (at-payload .payload .kept .1 .1 .1 .0) (at-payload .payload .kept .1 .1 .1 .1 .0) in (
+      unit-packed _ (a .mtu) (a .stated) (a .bytes .now) p (p .packets) (at-else1 .if1 .left) (e ∙ answer-is (a .mtu) unit (a .obus .now) (a .plan .now) (a .out .now)) (ready .packets-is),
+      λ n f. begins-as (length-take-le (a .stated) (a .bytes .now) (at-else1 .if1 .left)) (packed-one f) ready,
     )
 
 pub pack-unit-spec : {M : Type 1} → statement M

@@ -1,12 +1,44 @@
 use native.Mathlib.Omega.{arith}
 use Rattle.base.specs.Lists.{Put}
 use Rattle.base.proofs.Lists.{put-then, put-front}
-use Rattle.turns.proofs.Digits.{decimal-short}
 use Rattle.unpacking.specs.Unpack.{lossesLine}
-use Rattle.unpacking.proofs.LossesLine.{losses-short}
 use borrow.Author.Needs.{needs}
 use Rattle.unpacking.proofs.losses.put_losses.Statement.{statement}
 use Rattle.unpacking.proofs.losses.put_losses.Tie as tie
+
+-- the calls, from the last back to the start
+abbrev at-end : tie.After-slice-known5 → tie.After-put-text
+at-end c = c .before .before
+
+abbrev at-elements : tie.After-put-text → tie.After-put-labelled3
+at-elements c = c .before .before .before .before .before
+
+abbrev at-fragments : tie.After-put-labelled3 → tie.After-put-labelled2
+at-fragments c = c .before .before .before .before .before
+
+abbrev at-packets : tie.After-put-labelled2 → tie.After-put-labelled
+at-packets c = c .before .before .before .before .before
+
+abbrev at-start : tie.After-put-labelled → tie.Start
+at-start c = c .before .before .before .before
+
+slice-aggregate-put-labelled : tie.Need-slice-aggregate-put-labelled
+slice-aggregate-put-labelled c = search needs
+
+put-labelled-requires : tie.Need-put-labelled-requires
+put-labelled-requires c κs = search needs
+
+slice-aggregate-put-labelled-2 : tie.Need-slice-aggregate-put-labelled-2
+slice-aggregate-put-labelled-2 c = search needs
+
+put-labelled-requires-2 : tie.Need-put-labelled-requires-2
+put-labelled-requires-2 c κs = search needs
+
+slice-aggregate-put-labelled-3 : tie.Need-slice-aggregate-put-labelled-3
+slice-aggregate-put-labelled-3 c = search needs
+
+put-labelled-requires-3 : tie.Need-put-labelled-requires-3
+put-labelled-requires-3 c κs = search needs
 
 slice-aggregate-put-text : tie.Need-slice-aggregate-put-text
 slice-aggregate-put-text c = search needs
@@ -14,59 +46,34 @@ slice-aggregate-put-text c = search needs
 put-text-requires : tie.Need-put-text-requires
 put-text-requires c κs = search needs
 
-put-decimal-requires : tie.Need-put-decimal-requires
-put-decimal-requires c κs = search needs
-
-slice-aggregate-put-text-2 : tie.Need-slice-aggregate-put-text-2
-slice-aggregate-put-text-2 c = search needs
-
-put-text-requires-2 : tie.Need-put-text-requires-2
-put-text-requires-2 c κs = omega (arith, c .before .before .before .before .before .before .before .before .put-text .ensures .cursor, c .before .before .before .before .put-decimal .ensures .cursor, decimal-short (c .before .before .before .before .before .before .before .before .before .before .before .before .args .losses .packets), c .before .before .before .before .before .before .before .before .before .before .before .before .pre)
-
-put-decimal-requires-2 : tie.Need-put-decimal-requires-2
-put-decimal-requires-2 c κs = omega (arith, c .before .before .before .before .before .before .before .before .before .before .before .before .put-text .ensures .cursor, c .before .before .before .before .before .before .before .before .put-decimal .ensures .cursor, c .before .before .before .put-text2 .ensures .cursor, decimal-short (c .before .before .before .before .before .before .before .before .before .before .before .before .before .before .before .before .args .losses .packets), c .before .before .before .before .before .before .before .before .before .before .before .before .before .before .before .before .pre)
-
-slice-aggregate-put-text-3 : tie.Need-slice-aggregate-put-text-3
-slice-aggregate-put-text-3 c = search needs
-
-put-text-requires-3 : tie.Need-put-text-requires-3
-put-text-requires-3 c κs = omega (arith, c .before .before .before .before .before .before .before .before .before .before .before .before .before .before .before .before .before .put-text .ensures .cursor, c .before .before .before .before .before .before .before .before .before .before .before .before .before .put-decimal .ensures .cursor, c .before .before .before .before .before .before .before .before .put-text2 .ensures .cursor, c .before .before .before .before .put-decimal2 .ensures .cursor, decimal-short (c .before .before .before .before .before .before .before .before .before .before .before .before .before .before .before .before .before .before .before .before .before .args .losses .packets), decimal-short (c .before .before .before .before .before .before .before .before .before .before .before .before .before .before .before .before .before .before .before .before .before .args .losses .fragments), c .before .before .before .before .before .before .before .before .before .before .before .before .before .before .before .before .before .before .before .before .before .pre)
-
-put-decimal-requires-3 : tie.Need-put-decimal-requires-3
-put-decimal-requires-3 c κs = omega (arith, c .before .before .before .before .before .before .before .before .before .before .before .before .before .before .before .before .before .before .before .before .before .put-text .ensures .cursor, c .before .before .before .before .before .before .before .before .before .before .before .before .before .before .before .before .before .put-decimal .ensures .cursor, c .before .before .before .before .before .before .before .before .before .before .before .before .put-text2 .ensures .cursor, c .before .before .before .before .before .before .before .before .put-decimal2 .ensures .cursor, c .before .before .before .put-text3 .ensures .cursor, decimal-short (c .before .before .before .before .before .before .before .before .before .before .before .before .before .before .before .before .before .before .before .before .before .before .before .before .before .args .losses .packets), decimal-short (c .before .before .before .before .before .before .before .before .before .before .before .before .before .before .before .before .before .before .before .before .before .before .before .before .before .args .losses .fragments), c .before .before .before .before .before .before .before .before .before .before .before .before .before .before .before .before .before .before .before .before .before .before .before .before .before .pre)
-
-slice-aggregate-put-text-4 : tie.Need-slice-aggregate-put-text-4
-slice-aggregate-put-text-4 c = search needs
-
-put-text-requires-4 : tie.Need-put-text-requires-4
-put-text-requires-4 c κs = omega (arith, c .before .before .before .before .before .before .before .before .before .before .before .before .before .before .before .before .before .before .before .before .before .before .before .before .before .before .put-text .ensures .cursor, c .before .before .before .before .before .before .before .before .before .before .before .before .before .before .before .before .before .before .before .before .before .before .put-decimal .ensures .cursor, c .before .before .before .before .before .before .before .before .before .before .before .before .before .before .before .before .before .put-text2 .ensures .cursor, c .before .before .before .before .before .before .before .before .before .before .before .before .before .put-decimal2 .ensures .cursor, c .before .before .before .before .before .before .before .before .put-text3 .ensures .cursor, c .before .before .before .before .put-decimal3 .ensures .cursor, decimal-short (c .before .before .before .before .before .before .before .before .before .before .before .before .before .before .before .before .before .before .before .before .before .before .before .before .before .before .before .before .before .before .args .losses .packets), decimal-short (c .before .before .before .before .before .before .before .before .before .before .before .before .before .before .before .before .before .before .before .before .before .before .before .before .before .before .before .before .before .before .args .losses .fragments), decimal-short (c .before .before .before .before .before .before .before .before .before .before .before .before .before .before .before .before .before .before .before .before .before .before .before .before .before .before .before .before .before .before .args .losses .elements), c .before .before .before .before .before .before .before .before .before .before .before .before .before .before .before .before .before .before .before .before .before .before .before .before .before .before .before .before .before .before .pre)
-
 same-length : tie.Need-same-length
 same-length c = search needs
 
 returns : tie.Need-returns
 unfolding lossesLine
 returns c =
-    let a = c .before .before .before .before .before .before .before .before .before .before .before .before .before .before .before .before .before .before .before .before .before .before .before .before .before .before .before .before .before .before .before .before .before .args in
-    let all : Put (a .line .now) _ 0 _ (lossesLine (a .losses)) =
-    put-then (c .before .before .before .before .before .before .before .before .before .before .before .before .before .before .before .before .before .before .before .before .before .before .before .before .before .before .before .before .before .put-text .ensures) (put-then (c .before .before .before .before .before .before .before .before .before .before .before .before .before .before .before .before .before .before .before .before .before .before .before .before .before .put-decimal .ensures) (put-then (c .before .before .before .before .before .before .before .before .before .before .before .before .before .before .before .before .before .before .before .before .put-text2 .ensures)
-    (put-then (c .before .before .before .before .before .before .before .before .before .before .before .before .before .before .before .before .put-decimal2 .ensures) (put-then (c .before .before .before .before .before .before .before .before .before .before .before .put-text3 .ensures) (put-then (c .before .before .before .before .before .before .before .put-decimal3 .ensures) (c .before .before .put-text4 .ensures)))))) in
-    put-front all (omega (arith, all .cursor, losses-short (a .losses), c .before .before .before .before .before .before .before .before .before .before .before .before .before .before .before .before .before .before .before .before .before .before .before .before .before .before .before .before .before .before .before .before .before .pre))
+    let end = at-end c in
+    let elements = at-elements end in
+    let fragments = at-fragments elements in
+    let packets = at-packets fragments in
+    let start = at-start packets in
+    let all : Put (start .args .line .now) _ 0 _ (lossesLine (start .args .losses)) =
+    put-then (packets .put-labelled .ensures .0)
+    (put-then (fragments .put-labelled2 .ensures .0) (put-then (elements .put-labelled3 .ensures .0) (end .put-text .ensures))) in
+    put-front all
+    (omega (arith, packets .put-labelled .ensures .1, fragments .put-labelled2 .ensures .1, elements .put-labelled3 .ensures .1, end .put-text .ensures .cursor, start .pre))
 
 pub put-losses-spec : {M : Type 1} → statement M
 put-losses-spec =
     tie.close
     (tie.spec
+    slice-aggregate-put-labelled
+    put-labelled-requires
+    slice-aggregate-put-labelled-2
+    put-labelled-requires-2
+    slice-aggregate-put-labelled-3
+    put-labelled-requires-3
     slice-aggregate-put-text
     put-text-requires
-    put-decimal-requires
-    slice-aggregate-put-text-2
-    put-text-requires-2
-    put-decimal-requires-2
-    slice-aggregate-put-text-3
-    put-text-requires-3
-    put-decimal-requires-3
-    slice-aggregate-put-text-4
-    put-text-requires-4
     same-length
     returns)

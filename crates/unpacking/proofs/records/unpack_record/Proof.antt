@@ -1,4 +1,4 @@
-use mathlib.Core.Path.{_≡_, refl, sym, ap, _∙_}
+use mathlib.Core.Path.{_≡_, sym, ap, _∙_}
 use native.Mathlib.Omega.{arith}
 use Rattle.train.specs.Train.{holds, bodyOf}
 use Rattle.train.specs.Paper.{paperRecord}
@@ -9,9 +9,33 @@ use borrow.Author.Needs.{needs}
 use Rattle.unpacking.proofs.records.unpack_record.Statement.{statement}
 use Rattle.unpacking.proofs.records.unpack_record.Tie as tie
 
+-- ---- places, each by the one that follows it
+
+abbrev at-start : tie.After-read-body → tie.Start
+at-start c = c .before .before .before .before
+
+-- the record is found
+abbrev at-read : tie.After-struct-known → tie.After-read-body
+at-read c = c .before .before .before .before
+
+abbrev at-head : tie.After-receive → tie.After-struct-known
+at-head c = c .before .before .before .before
+
+-- the receiver's answer is a refusal, or not
+abbrev at-receive : tie.After-slice-known4 → tie.After-receive
+at-receive c = c .before .before .before .before
+
+abbrev at-refused : tie.After-known-told3 → tie.After-receive
+at-refused c = at-receive (c .before .before .before)
+
+abbrev at-received : tie.After-known-told4 → tie.After-receive
+at-received c = at-receive (c .before .before .before)
+
 -- what the record's head speaks of lies in what was read
-read : (c : tie.After-struct-known) → holds (c .before .before .head .given .0 .0) ≡ bodyOf (c .before .before .before .before .before .before .before .before .args .stated) 0 (c .before .before .before .before .before .before .before .before .args .body .now)
-read c = sym (ap paperRecord (c .before .before .head .given .1)) ∙ c .before .before .before .before .read-body .ensures
+read : (c : tie.After-struct-known) →
+    let a = at-start (at-read c) .args in
+    holds (c .before .before .head .given .0 .0) ≡ bodyOf (a .stated) 0 (a .body .now)
+read c = sym (ap paperRecord (c .before .before .head .given .1)) ∙ at-read c .read-body .ensures
 
 read-body-requires : tie.Need-read-body-requires
 read-body-requires c κs = search needs
@@ -48,13 +72,15 @@ enum-known-received c = search needs
 
 returns : tie.Need-returns
 returns c =
-    let a = c .before .before .before .before .before .before .args in
-    step-quits (a .state) (a .stated) (a .body .now) (a .store .now) (a .out .now) (sym (ap paperRecord (c .enum-told .given .1)) ∙ c .before .before .read-body .ensures)
+    let b = c .before .before in
+    let a = at-start b .args in
+    step-quits (a .state) (a .stated) (a .body .now) (a .store .now) (a .out .now) (sym (ap paperRecord (c .enum-told .given .1)) ∙ b .read-body .ensures)
 
 returns-2 : tie.Need-returns-2
 returns-2 c =
-    let a = c .before .before .before .before .before .before .before .args in
-    step-breaks (a .state) (a .stated) (a .body .now) (a .store .now) (a .out .now) _ (sym (ap paperRecord (c .before .refusal .given .1)) ∙ c .before .before .before .read-body .ensures)
+    let b = c .before .before .before in
+    let a = at-start b .args in
+    step-breaks (a .state) (a .stated) (a .body .now) (a .store .now) (a .out .now) (sym (ap paperRecord (c .before .refusal .given .1)) ∙ b .read-body .ensures)
 
 same-length : tie.Need-same-length
 same-length c = search needs
@@ -64,9 +90,9 @@ same-length-2 c = search needs
 
 returns-3 : tie.Need-returns-3
 returns-3 c =
-    let a = c .before .before .before .before .before .before .before .before .before .before .before .before .before .before .before .before .before .before .before .args in
-    let e = c .before .before .before .before .before .before .before .receive .ensures in
-    step-received (a .state) (a .stated) (a .body .now) (a .store .now) (a .out .now) (c .before .before .before .before .before .before .before .before .before .before .before .before .before .head .given .0 .0) _ _ _ (read (c .before .before .before .before .before .before .before .before .before .before .before)) (sym (ap paper (c .before .refusal2 .given .1)) ∙ e .0) (e .1) (e .2)
+    let h = at-head (at-refused c) in
+    let a = at-start (at-read h) .args in
+    step-received (a .state) (a .stated) (a .body .now) (a .store .now) (a .out .now) (read h) (sym (ap paper (c .before .refusal2 .given .1))) (at-refused c .receive .ensures)
 
 same-length-3 : tie.Need-same-length-3
 same-length-3 c = search needs
@@ -76,9 +102,9 @@ same-length-4 c = search needs
 
 returns-4 : tie.Need-returns-4
 returns-4 c =
-    let a = c .before .before .before .before .before .before .before .before .before .before .before .before .before .before .before .before .before .before .before .args in
-    let e = c .before .before .before .before .before .before .before .receive .ensures in
-    step-received (a .state) (a .stated) (a .body .now) (a .store .now) (a .out .now) (c .before .before .before .before .before .before .before .before .before .before .before .before .before .head .given .0 .0) _ _ _ (read (c .before .before .before .before .before .before .before .before .before .before .before)) (sym (ap paper (c .before .received .given .1)) ∙ e .0) (e .1) (e .2)
+    let h = at-head (at-received c) in
+    let a = at-start (at-read h) .args in
+    step-received (a .state) (a .stated) (a .body .now) (a .store .now) (a .out .now) (read h) (sym (ap paper (c .before .received .given .1))) (at-received c .receive .ensures)
 
 pub unpack-record-spec : {M : Type 1} → statement M
 unpack-record-spec =

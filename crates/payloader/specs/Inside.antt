@@ -1,0 +1,21 @@
+-- What functions below the payload call ask; no other contract cites this.
+use mathlib.Core.Path.{_≡_}
+use Prim.Native.Nat.{ℕ, _+_, _≤_, _<_}
+use mathlib.Core.List.{List}
+use lib.ListN.{length}
+use Rattle.obu.specs.Records.{flat}
+use Rattle.obu.specs.Unit.{unitLimit, obusOf}
+use Rattle.packetizer.specs.Records.{flatPlan}
+use Rattle.packetizer.specs.Call.{unitPlan}
+use Rattle.payloader.specs.Payload.{payloadAt}
+
+-- two lists hold the records of a unit and of its plan, and nothing else
+pub record Lent (mtu : ℕ) (unit obus plan : List ℕ) : Type 0 where
+  pub small : length unit ≤ unitLimit
+  pub obus-is : obus ≡ flat (obusOf unit)
+  pub plan-is : plan ≡ flatPlan (unitPlan mtu unit)
+
+-- packet k is there, and there is space for its payload from `at` on
+pub record Writable (mtu : ℕ) (unit : List ℕ) (k : ℕ) (out : List ℕ) (at : ℕ) : Type 0 where
+  pub there : k < length (unitPlan mtu unit)
+  pub room : at + length (payloadAt mtu unit k) ≤ length out
