@@ -1,6 +1,6 @@
 -- Length fields grow with what they count, and the largest fragment is the largest (P12). Assumes nothing.
 use mathlib.Core.Path.{_≡_, refl, ap, _∙_}
-use Prim.Native.Nat.{ℕ, zero, suc, _+_, _-_, _*_, _/_, _%_, _^_, _≤_, _<_}
+use Prim.Native.Nat.{ℕ, zero, suc, _+_, _-_, _/_, _≤_, _<_}
 use native.Mathlib.Nat.{sub-zero}
 use native.Mathlib.Numerals.{sub-one}
 use native.Mathlib.Omega.{arith}
@@ -153,27 +153,13 @@ module _ (r : ℕ) where
       (λ w. largest-at 3 (leb-false _ _ v) (leb-true _ _ w))
       (λ w. largest-end (leb-false _ _ w)))))
 
--- ---- the loop that looks for it: fields of i bytes count up to 128 to the i
+-- ---- the rooms whose field has i bytes, as the crate's loop goes through them: fields of i bytes count up to 128 to the i
 
 pub record Shifting (r i : ℕ) : Type 0 where
   pub from : 1 ≤ i
   pub most : i ≤ 5
   pub two : 2 ≤ r
   pub passed : 1 ≤ i - 1 → cap (i - 1) + (i - 1) ≤ r
-
--- the power, as the code shifts for it
-pub shifted : (i : ℕ) → i ≤ 5 → 1 * 2 ^ (7 * i) % 18446744073709551616 ≡ cap i
-shifted zero h = refl
-shifted (suc zero) h = refl
-shifted (suc (suc zero)) h = refl
-shifted (suc (suc (suc zero))) h = refl
-shifted (suc (suc (suc (suc zero)))) h = refl
-shifted (suc (suc (suc (suc (suc zero))))) h = refl
-shifted (suc (suc (suc (suc (suc (suc i)))))) h = absurd (omega arith)
-
--- what a further turn, and the turn's test, ask
-pub shifted-small : (i : ℕ) → i ≤ 5 → 1 * 2 ^ (7 * i) % 18446744073709551616 ≤ cap 5
-shifted-small i h = rw (shifted i h) (cap-le i 5 h)
 
 pub shifting-next : (r i : ℕ) → r < 4294967296 → Shifting r i → cap i + i ≤ r → Shifting r (i + 1)
 shifting-next r i b s h =

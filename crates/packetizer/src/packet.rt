@@ -103,17 +103,25 @@ pub fn with_element(p: PacketMetadata, n: u32) -> PacketMetadata
 }
 
 // The largest fragment that fits with its length field.
+// From each of these rooms on the field has a byte more: 128 + 1, 16,384 + 2, 2,097,152 + 3, 268,435,456 + 4.
 pub fn max_fragment_size(left: u32) -> u32
     ensures { λ r. ⌜ Largest left r ⌝ }
 {
     if left <= 1 {
         return 0;
     }
-    let mut i: u32 = 1;
-    while left as u64 >= (1u64 << (7 * i)) + i as u64 {
-        i += 1;
-    }
-    left - i
+    let field: u32 = if left < 129 {
+        1
+    } else if left < 16386 {
+        2
+    } else if left < 2097155 {
+        3
+    } else if left < 268435460 {
+        4
+    } else {
+        5
+    };
+    left - field
 }
 
 fn smaller(a: u32, b: u32) -> u32

@@ -1,67 +1,35 @@
-use Prim.Native.Nat.{_-_}
+use Prim.Native.Nat.{ℕ, _+_, _-_, _≤_, _<_}
+use mathlib.Core.Logic.{⊎-elim}
 use native.Mathlib.Omega.{arith}
-use borrow.Author.Needs.{needs}
-use Rattle.packetizer.proofs.Fragments.{Shifting, largest-none, shifted, shifted-small, shifting-next, shifting-room, shifting-end}
+use Rattle.leb128.specs.Laws.{cap}
+use Rattle.packetizer.proofs.Fragments.{Shifting, largest-none, shifting-room, shifting-end}
 use Rattle.packetizer.proofs.packet.max_fragment_size.Statement.{statement}
 use Rattle.packetizer.proofs.packet.max_fragment_size.Tie as tie
 
-abbrev Inv-loop : tie.InvT-loop
-Inv-loop left i₀ i = Shifting left i
+-- a room of r bytes whose length field has i
+abbrev Among : ℕ → ℕ → Type 0
+Among r i = (1 ≤ i) × (i ≤ 5) × (2 ≤ r) × (cap (i - 1) + (i - 1) ≤ r) × (r < cap i + i)
 
-abbrev μ-loop : tie.MeasureT-loop
-μ-loop left i₀ i = 6 - i
+shifting : {r i : ℕ} → Among r i → Shifting r i
+shifting a = record { from = a .0; most = a .1; two = a .2; passed = λ q. a .3 }
 
-returns : tie.Need-returns Inv-loop μ-loop
+among : (c : tie.Joined2) → Among (c .before .before .args .left) (c .if2 .field)
+among c =
+    ⊎-elim
+    (λ w. rw (w .1) (omega arith))
+    (⊎-elim
+    (λ w. rw (w .2) (omega arith))
+    (⊎-elim (λ w. rw (w .3) (omega arith)) (⊎-elim (λ w. rw (w .4) (omega arith)) (λ w. rw (w .4) (omega arith)))))
+    (c .if2 .came)
+
+returns : tie.Need-returns
 returns c = largest-none (c .before .args .left) (c .if1 .taken)
 
-loop-holds : tie.Need-loop-holds Inv-loop μ-loop
-loop-holds c = search needs
+sub-result : tie.Need-sub-result
+sub-result c = shifting-room _ _ (shifting (among (c .before)))
 
-mul-loop : tie.Need-mul-loop Inv-loop μ-loop
-mul-loop c = search needs
-
-cast-loop : tie.Need-cast-loop Inv-loop μ-loop
-cast-loop c = search needs
-
-shl-loop : tie.Need-shl-loop Inv-loop μ-loop
-shl-loop c = search needs
-
-cast-loop-2 : tie.Need-cast-loop-2 Inv-loop μ-loop
-cast-loop-2 c = search needs
-
-add-loop : tie.Need-add-loop Inv-loop μ-loop
-add-loop c = omega (arith, shifted-small (c .loop .i) (c .loop .inv .most))
-
-add-i : tie.Need-add-i Inv-loop μ-loop
-add-i c = search needs
-
-loop-less : tie.Need-loop-less Inv-loop μ-loop
-loop-less c = search needs
-
-loop-again : tie.Need-loop-again Inv-loop μ-loop
-loop-again c = shifting-next _ _ (omega arith) (c .before .loop .inv) (omega (arith, shifted (c .before .loop .i) (c .before .loop .inv .most), c .loop-test .taken))
-
-sub-result : tie.Need-sub-result Inv-loop μ-loop
-sub-result c = omega (arith, shifting-room _ _ (c .before .loop .inv))
-
-returns-2 : tie.Need-returns-2 Inv-loop μ-loop
-returns-2 c = shifting-end _ _ (c .before .loop .inv) (omega (arith, shifted (c .before .loop .i) (c .before .loop .inv .most), c .loop-test .left))
+returns-2 : tie.Need-returns-2
+returns-2 c = let a = among (c .before) in shifting-end _ _ (shifting a) (a .4)
 
 pub max-fragment-size-spec : {M : Type 1} → statement M
-max-fragment-size-spec =
-    tie.close
-    (tie.spec
-    Inv-loop
-    μ-loop
-    returns
-    loop-holds
-    mul-loop
-    cast-loop
-    shl-loop
-    cast-loop-2
-    add-loop
-    add-i
-    loop-less
-    loop-again
-    sub-result
-    returns-2)
+max-fragment-size-spec = tie.close (tie.spec returns sub-result returns-2)
