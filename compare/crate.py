@@ -3,6 +3,7 @@
 A class is decided by the unit alone, never by the crate's answer. For each unit the crate's whole answer (list, plan,
 headers, payloads, or its error or panic) is foretold and then held against what the oracle says.
 """
+import itertools
 import os
 import subprocess
 from collections import namedtuple
@@ -209,7 +210,14 @@ def list_text(obus):
 
 
 def plan_text(plan):
-    return ";".join(["%d,%d,%d,%d,%d" % packet for packet in plan]) or "-"
+    """A plan as the oracle prints it: the crate's records have five numbers, and no start of the payload."""
+    return ";".join(["%d,%d,%d,%d,%d" % packet[:5] for packet in plan]) or "-"
+
+
+def starts_hold(plan):
+    """P16. Whether each payload starts at the sum of the lengths before it."""
+    ends = itertools.accumulate(packet.size + 1 for packet in plan)
+    return [packet.start for packet in plan] == [0, *ends][:len(plan)]
 
 
 def both_payloads(unit, obus, plan):
@@ -276,6 +284,8 @@ def check_answer(mtu, unit, told, answer, tally, layers):
         tally.add(MTU_OVER)
     if "plans" in layers:
         hold("plans", parts[2], plan_text(plan))
+        if not starts_hold(plan):
+            complaints.append("plans: a payload's start by the rules breaks P16")
     if "headers" in layers:
         hold("headers", parts[3], ",".join(["%02X" % rules.header_byte(told, p, k) for k, p in enumerate(plan)]) or "-")
     if "payloads" in layers:

@@ -22,11 +22,12 @@ STORE_BYTES = 32_768            # L12 and L15, unit store of pack and planlist, 
 LIST_RECORDS = 512              # L13, OBU list and plan list of pack and planlist
 OUTPUT_BYTES = 65_536           # L14, output of pack and unpack
 OBU_NUMBERS = 5                 # L16, numbers of an OBU record in a flat list
-PLAN_NUMBERS = 5                # L16, numbers of a plan record in a flat list
+PLAN_NUMBERS = 6                # L16, numbers of a plan record in a flat list
+END_LIMIT = 4_294_967_295       # L17, where a payload of a plan ends in the output
 
-Obu = namedtuple("Obu", "header extension start length size")      # O7
-Packet = namedtuple("Packet", "first count offset last size")       # P2
-State = namedtuple("State", "begun last open")                      # V1
+Obu = namedtuple("Obu", "header extension start length size")          # O7
+Packet = namedtuple("Packet", "first count offset last size start")     # P2
+State = namedtuple("State", "begun last open")                          # V1
 FRESH = State(False, 0, 0)
 Taken = namedtuple("Taken", "state bytes fragment_lost element_lost")   # V12
 
@@ -210,39 +211,44 @@ def cost_of_previous(packet):
     return 0 if packet.count == 0 or packet.count >= 4 else field_size(packet.last)
 
 
+def close(closed, packet):
+    """P3, P16. A packet closed: it goes to `closed`. Gives where the next one's payload starts, right after its own."""
+    closed.append(packet)
+    return packet.start + packet.size + 1
+
+
 def place(closed, packet, index, size, room):
-    """P5 to P10. OBU `index`, of this size, placed. Closed packets go to `closed`; gives the new current one."""
+    """P5 to P10, P16. OBU `index`, of this size, placed. Closed packets go to `closed`; gives the new current one."""
     cost = cost_of_previous(packet)
     if room - packet.size < cost + (2 if packet.count >= 3 else 1):
-        closed.append(packet)                       # P5, a new packet
-        packet, cost = Packet(index, 0, 0, 0, 0), 0
-    first, count, offset, _, used = packet
+        packet, cost = Packet(index, 0, 0, 0, 0, close(closed, packet)), 0      # P5, a new packet
+    first, count, offset, _, used, start = packet
     left = room - used - cost
     has_length = count >= 3                         # from the fourth element on
     need = size + field_size(size) if has_length else size
     if need < left:                                 # P6, whole
-        return Packet(first, count + 1, offset, size, used + cost + need)
+        return Packet(first, count + 1, offset, size, used + cost + need, start)
     fragment = min(size - 1, largest_fragment(left) if has_length else left)
     if fragment == 0:
-        closed.append(packet)                       # P8, taken out, the charge too
+        start = close(closed, packet)               # P8, taken out, the charge too
     else:                                           # P7, first fragment
         length = field_size(fragment) if has_length else 0
-        closed.append(Packet(first, count + 1, offset, fragment, used + cost + length + fragment))
+        start = close(closed, Packet(first, count + 1, offset, fragment, used + cost + length + fragment, start))
     at = fragment
     while size - at > room:                         # P9, middle fragments
-        closed.append(Packet(index, 1, at, room, room))
+        start = close(closed, Packet(index, 1, at, room, room, start))
         at += room
-    return Packet(index, 1, at, size - at, size - at)   # P10, last fragment
+    return Packet(index, 1, at, size - at, size - at, start)    # P10, last fragment
 
 
 def plan_of(sizes, mtu):
-    """P1, P3. The plan of kept OBUs of these sizes: none without OBUs or with an mtu below 3."""
+    """P1, P3, P16. The plan of kept OBUs of these sizes: none without OBUs or with an mtu below 3."""
     if not sizes or mtu < 3:
         return []
-    closed, packet = [], Packet(0, 0, 0, 0, 0)
+    closed, packet = [], Packet(0, 0, 0, 0, 0, 0)
     for index, size in enumerate(sizes):
         packet = place(closed, packet, index, size, mtu - 1)
-    closed.append(packet)
+    close(closed, packet)
     return closed
 
 
@@ -275,10 +281,15 @@ def records(numbers, kind, width):
     return [kind(*numbers[i:i + width]) for i in range(0, len(numbers) // width * width, width)]
 
 
+def is_usable(packet, obus):
+    """R11, H7, L17. Whether a record has elements, all of them of these OBUs, and a payload that ends within the limit."""
+    return packet.count > 0 and packet.first + packet.count <= len(obus) and packet.start + packet.size + 1 <= END_LIMIT
+
+
 def get_aggregation_header(obus, plan, k):
     """The header call (H6, H7) over flat lists: the byte, or R11."""
     obus, plan = records(obus, Obu, OBU_NUMBERS), records(plan, Packet, PLAN_NUMBERS)
-    if k >= len(plan) or plan[k].count == 0 or plan[k].first + plan[k].count > len(obus):
+    if k >= len(plan) or not is_usable(plan[k], obus):
         raise Refused(11)
     return header_byte(obus, plan[k], k)
 
@@ -324,6 +335,11 @@ def payload(mtu, unit, obus, plan, out):
         raise Refused(10)
     out[:len(made)] = made
     return count, packets, len(made)
+
+
+def payload_in(out, packet):
+    """P13, P16. A packet's payload in a filled output."""
+    return bytes(out[packet.start:packet.start + packet.size + 1])
 
 
 # ---- elements of a payload
@@ -510,17 +526,16 @@ def pack_steps(source):
         if len(unit) < length:
             yield Said("%s: cut" % of)
             return
-        obus, plan, out = [0] * (5 * LIST_RECORDS), [0] * (5 * LIST_RECORDS), bytearray(OUTPUT_BYTES)
+        obus, plan = [0] * (OBU_NUMBERS * LIST_RECORDS), [0] * (PLAN_NUMBERS * LIST_RECORDS)
+        out = bytearray(OUTPUT_BYTES)
         try:
             _, packets, _ = payload(mtu, unit, obus, plan, out)
         except Refused as bad:
             yield refused(of, bad.number)
             return
-        begins = 0
-        for packet in records(plan[:5 * packets], Packet, PLAN_NUMBERS):
-            ends = begins + packet.size + 1
-            yield Written(of, train_record(number, bytes(out[begins:ends])))
-            begins, number = ends, (number + 1) % 65_536
+        for packet in records(plan[:PLAN_NUMBERS * packets], Packet, PLAN_NUMBERS):
+            yield Written(of, train_record(number, payload_in(out, packet)))
+            number = (number + 1) % 65_536
 
 
 def unpack_steps(source):
@@ -566,16 +581,16 @@ def planlist_steps(source):
     if not good or len(unit) < length or source.read(1, of):
         yield Written(of, b"bad input\n")
         return
-    obus, plan = [0] * (5 * LIST_RECORDS), [0] * (5 * LIST_RECORDS)
+    obus, plan = [0] * (OBU_NUMBERS * LIST_RECORDS), [0] * (PLAN_NUMBERS * LIST_RECORDS)
     try:
         count, packets = plan_unit(int.from_bytes(head[1:3], "big"), unit, obus, plan)
     except Refused as bad:
         yield Written(of, b"refused %d %d\n" % (bad.number, bad.offset))
         return
     yield Written(of, b"obus %d\npackets %d\n" % (count, packets))
-    for k in range(packets):
-        row = plan[5 * k:5 * k + 5]
-        yield Written(of, b"%d %d %d %d %d %d %02X\n" % (k, *row, get_aggregation_header(obus, plan, k)))
+    for k, packet in enumerate(records(plan[:PLAN_NUMBERS * packets], Packet, PLAN_NUMBERS)):
+        row = (k, *packet[:-1], get_aggregation_header(obus, plan, k), packet.start)
+        yield Written(of, b"%d %d %d %d %d %d %02X %d\n" % row)
 
 
 STEPS = {"pack": pack_steps, "unpack": unpack_steps, "planlist": planlist_steps}
@@ -618,7 +633,7 @@ def planlist(data):
 
 def records_text(records):
     """Records as `vectors` prints them after their count."""
-    return "%d %s" % (len(records), ";".join(["%d,%d,%d,%d,%d" % record for record in records])) if records else "0"
+    return "%d %s" % (len(records), ";".join([",".join(map(str, record)) for record in records])) if records else "0"
 
 
 def vectors_line(mtu, obu_numbers, plan_numbers, out_bytes, unit):
@@ -678,12 +693,8 @@ def shown(mtu, unit):
         _, packets, _ = payload(mtu, bytes.fromhex(unit), obus, plan, out)
     except Refused as bad:
         return "%d at %d" % (bad.number, bad.offset)
-    texts, begins = [], 0
-    for k in range(packets):
-        ends = begins + plan[5 * k + 4] + 1
-        texts.append(out[begins:ends].hex(" ").upper())
-        begins = ends
-    return " / ".join(texts)
+    rows = records(plan[:PLAN_NUMBERS * packets], Packet, PLAN_NUMBERS)
+    return " / ".join(payload_in(out, packet).hex(" ").upper() for packet in rows)
 
 
 LONG = "12 00 0A 03 11 22 33 32 05 A1 A2 A3 A4 A5"
@@ -770,11 +781,11 @@ def test_list(t):
     t.same("over the limit", answer(kept_obus, b"\x36" * (UNIT_LIMIT + 1)), [2, 0])
     for case, want in [
         ("2 5 0 0 32003200", "refused 8 2"), ("9 0 0 0 -", "obus 0 packets 0"), ("2 5 0 0 3200", "obus 1 50,0,2,0,1 packets 0"),
-        ("3 0 0 0 12007A00", "obus 0 packets 0"), ("65534 0 0 0 36", "refused 1 0"), ("3 5 4 9 3200", "refused 9 0"),
-        ("3 5 5 1 3200", "refused 10 0"),
-        ("3 5 5 2 3200*2", "obus 1 50,0,2,0,1 packets 1 0,1,0,1,1 headers 10 payloads 1030"),
-        ("3 5 10 5 3001*4", "refused 10 0"),
-        ("3 5 10 6 3001*4", "obus 1 48,0,1,3,4 packets 2 0,1,0,2,2;0,1,2,2,2 headers 50,90 payloads 503001,900101"),
+        ("3 0 0 0 12007A00", "obus 0 packets 0"), ("65534 0 0 0 36", "refused 1 0"), ("3 5 5 9 3200", "refused 9 0"),
+        ("3 5 6 1 3200", "refused 10 0"),
+        ("3 5 6 2 3200*2", "obus 1 50,0,2,0,1 packets 1 0,1,0,1,1,0 headers 10 payloads 1030"),
+        ("3 5 11 6 3001*4", "refused 9 0"), ("3 5 12 5 3001*4", "refused 10 0"),
+        ("3 5 12 6 3001*4", "obus 1 48,0,1,3,4 packets 2 0,1,0,2,2,0;0,1,2,2,2,3 headers 50,90 payloads 503001,900101"),
     ]:
         t.same("vectors, %s" % case, vectors(case + "\n"), want + "\n")
 
@@ -789,6 +800,10 @@ def test_plan(t):
         while fits + 1 + field_size(fits + 1) <= room:
             fits += 1
         t.same("largest fragment for room %d by counting" % room, largest_fragment(room), fits)
+    # P16: none; one; behind an OBU taken out; in a new packet; of middle fragments; in a new packet for a fourth element
+    for sizes, mtu, want in [([], 5, []), ([2], 5, [0]), ([2, 1], 5, [0, 3]), ([2, 1], 4, [0, 3]), ([4, 6], 3, [0, 3, 6, 9, 12]),
+                             ([1, 1, 1, 7], 8, [0, 6, 13])]:
+        t.same("starts for sizes %r, mtu %d" % (sizes, mtu), [packet.start for packet in plan_of(sizes, mtu)], want)
     unit = b"\x32\x7F" + bytes(127) + b"\x30\x00"
     t.same("mtu 132", [len(p) for p in payloads(unit, kept_obus(unit), plan_of([128, 2], 132))], [132, 2])
     unit = bytes.fromhex("32 01 A1") * 349_525 + b"\x30"
@@ -796,7 +811,7 @@ def test_plan(t):
 
 
 def test_law(t):
-    """P13 on random units."""
+    """P13 and P16 on random units."""
     rng = random.Random(1)
     for _ in range(3000):
         unit = b"".join(b"\x32" + write_field(n) + bytes(n) for n in
@@ -807,7 +822,8 @@ def test_law(t):
         made = payloads(unit, obus, plan)
         lengths = all(2 <= len(p) <= mtu and len(p) == packet.size + 1 for p, packet in zip(made, plan))
         joined = b"".join(b"".join(elements(p)) for p in made) == b"".join(sent(unit, o) for o in obus)
-        t.same("law for %s, mtu %d" % (unit.hex(), mtu), (lengths, joined), (True, True))
+        starts = [packet.start for packet in plan] == [sum(map(len, made[:k])) for k in range(len(made))]
+        t.same("law for %s, mtu %d" % (unit.hex(), mtu), (lengths, joined, starts), (True, True, True))
 
 
 def test_vectors(t):
@@ -816,17 +832,18 @@ def test_vectors(t):
     for _ in range(2000):
         unit = b"".join(bytes([rng.choice([0x0A, 0x12, 0x32])]) + write_field(n) + bytes(n) for n in
                         [rng.choice([0, 0, 1, 2, 5, rng.randrange(150)]) for _ in range(rng.randrange(7))])
-        mtu, space = rng.choice([2, 3, 4, 7, 20, 150]), [rng.choice([n, 5 * rng.randrange(8)]) for n in (400, 4000, 4000)]
+        mtu = rng.choice([2, 3, 4, 7, 20, 150])
+        space = [rng.choice([n, width * rng.randrange(8)]) for n, width in ((400, OBU_NUMBERS), (4800, PLAN_NUMBERS), (4000, 5))]
         obus, plan, out = [7] * space[0], [7] * space[1], bytearray(space[2])
         try:
             count, packets, _ = payload(mtu, unit, obus, plan, out)
-            kept, rows = records(obus[:5 * count], Obu, 5), records(plan[:5 * packets], Packet, 5)
-            ends = [sum(r.size + 1 for r in rows[:k + 1]) for k in range(packets)]
+            kept = records(obus[:OBU_NUMBERS * count], Obu, OBU_NUMBERS)
+            rows = records(plan[:PLAN_NUMBERS * packets], Packet, PLAN_NUMBERS)
             want = "obus %s packets %s" % (records_text(kept), records_text(rows))
             if packets:
                 want += " headers %s payloads %s" % (
                     ",".join("%02X" % get_aggregation_header(obus, plan, k) for k in range(packets)),
-                    ",".join(out[e - r.size - 1:e].hex().upper() for e, r in zip(ends, rows)))
+                    ",".join(payload_in(out, r).hex().upper() for r in rows))
         except Refused as bad:
             want = "refused %d %d" % (bad.number, bad.offset)
         t.same("vectors_line for %s, mtu %d" % (unit.hex(), mtu), vectors_line(mtu, *space, unit), want)
@@ -835,11 +852,11 @@ def test_vectors(t):
 def test_left(t):
     """C5 to C7, C9: what each refusal of the payload call leaves in the lent slices."""
     unit = bytes.fromhex("0A 01 7F 32 00")
-    full_list, full_plan = [0x0A, 0, 2, 1, 2, 0x32, 0, 5, 0, 1], [0, 1, 0, 2, 2, 1, 1, 0, 1, 1]
+    full_list, full_plan = [0x0A, 0, 2, 1, 2, 0x32, 0, 5, 0, 1], [0, 1, 0, 2, 2, 0, 1, 1, 0, 1, 1, 3]
     for mtu, list_numbers, plan_numbers, out_bytes, want in [
-        (65_534, 10, 10, 5, ([1, 0], False, False, False)), (5, 9, 10, 5, ([8, 3], False, False, False)),
-        (5, 10, 9, 5, ([9, 0], True, False, False)), (5, 10, 10, 4, ([10, 0], True, True, False)),
-        (5, 10, 10, 5, ((2, 2, 5), True, True, True)),
+        (65_534, 10, 12, 5, ([1, 0], False, False, False)), (5, 9, 12, 5, ([8, 3], False, False, False)),
+        (5, 10, 11, 5, ([9, 0], True, False, False)), (5, 10, 12, 4, ([10, 0], True, True, False)),
+        (5, 10, 12, 5, ((2, 2, 5), True, True, True)),
     ]:
         obus, plan, out = [7] * list_numbers, [7] * plan_numbers, bytearray([7] * out_bytes)
         got = answer(payload, mtu, unit, obus, plan, out)
@@ -849,19 +866,24 @@ def test_left(t):
 
 
 def test_header(t):
-    obus = [0x0A, 0, 2, 1, 2, 0x32, 0, 5, 0, 1]
+    obus, most = [0x0A, 0, 2, 1, 2, 0x32, 0, 5, 0, 1], 4_294_967_295
     for plan, k, want in [
-        ([0, 1, 0, 2, 2], 0, 0x18), ([0, 1, 0, 2, 2], 1, [11, 0]), ([0, 0, 0, 2, 2], 0, [11, 0]),
-        ([1, 2, 0, 1, 1], 0, [11, 0]), ([0, 3, 0, 1, 1], 0, [11, 0]), ([0, 1, 0, 2], 0, [11, 0]),
-        ([1, 1, 0, 1, 1], 0, 0x18), ([0, 1, 1, 0, 1], 0, 0xD8), ([0, 2, 1, 1, 9], 0, 0xA8), ([0, 2, 1, 0, 9], 0, 0xE8),
-        ([0, 1, 4_294_967_295, 4_294_967_295, 0], 0, 0x98), ([4_294_967_295, 4_294_967_295, 0, 0, 0], 0, [11, 0]),
-        ([0, 1, 0, 2, 2, 1, 1, 0, 1, 1], 1, 0x10),
+        ([0, 1, 0, 2, 2, 0], 0, 0x18), ([0, 1, 0, 2, 2, 0], 1, [11, 0]), ([0, 0, 0, 2, 2, 0], 0, [11, 0]),
+        ([1, 2, 0, 1, 1, 0], 0, [11, 0]), ([0, 3, 0, 1, 1, 0], 0, [11, 0]), ([0, 1, 0, 2, 2], 0, [11, 0]),
+        ([1, 1, 0, 1, 1, 0], 0, 0x18), ([0, 1, 1, 0, 1, 0], 0, 0xD8), ([0, 2, 1, 1, 9, 0], 0, 0xA8),
+        ([0, 2, 1, 0, 9, 0], 0, 0xE8), ([0, 1, most, most, 0, 0], 0, 0x98), ([most, most, 0, 0, 0, 0], 0, [11, 0]),
+        ([0, 1, 0, 2, 2, 0, 1, 1, 0, 1, 1, 3], 1, 0x10), ([0, 1, 0, 2, 2, 0, 1, 1, 0, 1, 1, 99], 1, 0x10),
+        # start and packet size: their sum and 1 is at the limit, or over it; of record k alone
+        ([0, 1, 0, 2, 2, most - 3], 0, 0x18), ([0, 1, 0, 2, 2, most - 2], 0, [11, 0]),
+        ([0, 1, 0, 2, most - 1, 0], 0, 0x18), ([0, 1, 0, 2, most, 0], 0, [11, 0]),
+        ([0, 1, 0, 2, 0, most - 1], 0, 0x18), ([0, 1, 0, 2, 0, most], 0, [11, 0]), ([0, 1, 0, 2, most, most], 0, [11, 0]),
+        ([0, 1, 0, 2, 2, most, 1, 1, 0, 1, 1, 3], 1, 0x10), ([0, 1, 0, 2, 2, 0, 1, 1, 0, 1, 1, most], 1, [11, 0]),
     ]:
         t.same("header of %d in %r" % (k, plan), answer(get_aggregation_header, obus, plan, k), want)
-    t.same("an unfinished OBU record", answer(get_aggregation_header, obus[:9], [1, 1, 0, 1, 1], 0), [11, 0])
-    t.same("type above a byte", get_aggregation_header([0xF0A, 0, 0, 1, 2], [0, 1, 0, 2, 2], 0), 0x18)
+    t.same("an unfinished OBU record", answer(get_aggregation_header, obus[:9], [1, 1, 0, 1, 1, 0], 0), [11, 0])
+    t.same("type above a byte", get_aggregation_header([0xF0A, 0, 0, 1, 2], [0, 1, 0, 2, 2, 0], 0), 0x18)
     four = [0x32, 0, 0, 0, 1] * 4
-    t.same("W of four", get_aggregation_header(four, [0, 4, 0, 1, 8], 0), 0)
+    t.same("W of four", get_aggregation_header(four, [0, 4, 0, 1, 8, 0], 0), 0)
 
 
 def test_elements(t):
@@ -971,7 +993,7 @@ def test_delivery(t):
 def test_programs(t):
     head = bytes.fromhex("01 00 05 00 00 00 05")
     example = head + bytes.fromhex("0A 01 7F 32 00")
-    t.same("planlist", planlist(example), "obus 2\npackets 2\n0 0 1 0 2 2 18\n1 1 1 0 1 1 10\n")
+    t.same("planlist", planlist(example), "obus 2\npackets 2\n0 0 1 0 2 2 18 0\n1 1 1 0 1 1 10 3\n")
     for what, data in [("empty", b""), ("head cut", head[:6]), ("less", example[:-1]), ("more", example + b"\0"),
                        ("version", b"\x02" + example[1:]), ("store", b"\x01\x00\x05\x00\x00\x80\x01" + bytes(32_769))]:
         t.same("planlist, %s" % what, planlist(data), "bad input\n")
@@ -979,9 +1001,9 @@ def test_programs(t):
     t.same("planlist, refused", planlist(bytes.fromhex("01 00 05 00 00 00 03 32 02 A1")), "refused 7 0\n")
     t.same("planlist, mtu", planlist(b"\x01\xFF\xFE" + example[3:]), "refused 1 0\n")
     t.same("planlist, full store", planlist(b"\x01\xFF\xFD\x00\x00\x80\x00" + b"\x30" + bytes(32_767)),
-           "obus 1\npackets 1\n0 0 1 0 32768 32768 10\n")
+           "obus 1\npackets 1\n0 0 1 0 32768 32768 10 0\n")
     t.same("planlist, 512 OBUs", planlist(b"\x01\xFF\xFD\x00\x00\x04\x00" + b"\x32\x00" * 512),
-           "obus 512\npackets 1\n0 0 512 0 1 1024 00\n")
+           "obus 512\npackets 1\n0 0 512 0 1 1024 00 0\n")
     t.same("planlist, 513 OBUs", planlist(b"\x01\xFF\xFD\x00\x00\x04\x02" + b"\x32\x00" * 513), "refused 8 1024\n")
     t.same("planlist, 513 packets", planlist(b"\x01\x00\x03\x00\x00\x04\x02" + b"\x30" + bytes(1025)), "refused 9 0\n")
     units = bytes.fromhex("00 00 00 05 0A 01 7F 32 00") + bytes(4) + bytes.fromhex("00 00 00 01 30")
@@ -1052,7 +1074,7 @@ def test_failures(t):
         ("planlist", b"\2" + listed[1:7], b"bad input\n"),
     ]:
         t.same("%s, reading fails behind %s" % (name, data.hex()), b"".join(map(step_bytes, run(name, data, True))), want)
-    joined, rows = bytes.fromhex("320130"), [b"obus 2\npackets 2\n", b"0 0 1 0 2 2 18\n", b"1 1 1 0 1 1 10\n"]
+    joined, rows = bytes.fromhex("320130"), [b"obus 2\npackets 2\n", b"0 0 1 0 2 2 18 0\n", b"1 1 1 0 1 1 10 3\n"]
     first = bytes.fromhex("0005FFFF18087F")
     for name, data, writes, want in [
         ("unpack", file, 0, behind + b"record 2: write failed\n"),

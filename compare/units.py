@@ -11,7 +11,8 @@ from collections import namedtuple
 Case = namedtuple("Case", "kind numbers mtu unit plan output")
 
 LIMIT = 1_048_576               # bytes of a unit
-MOST_NUMBERS = 20_000           # of a lent list; `vectors` has two of 20,480
+OBU_NUMBERS, PLAN_NUMBERS = 5, 6        # of a record in a lent list
+MOST_NUMBERS = 20_000           # of a lent list; `vectors` has two of 24,576
 MOST_OUTPUT = 262_144           # bytes of a lent output
 HEADERS = bytes(kind << 3 | bits for kind in (1, 2, 3, 6, 8, 15) for bits in (0, 2, 4, 6))
 RESERVED = bytes([0xB2, 0x33, 0x8F, 0x95])          # header bytes with bit 7, bit 0 or both set
@@ -95,8 +96,8 @@ def lengths_of(dice):
 def lent(dice, unit, count):
     """Numbers of the lent list: three times in four enough for any list of this unit, else about `count` records."""
     if dice.chance(75):
-        return MOST_NUMBERS if dice.chance(30) else min(MOST_NUMBERS, 5 * len(unit) + dice.below(5))
-    return min(MOST_NUMBERS, dice.below(5 * count + 5))
+        return MOST_NUMBERS if dice.chance(30) else min(MOST_NUMBERS, OBU_NUMBERS * len(unit) + dice.below(OBU_NUMBERS))
+    return min(MOST_NUMBERS, dice.below(OBU_NUMBERS * (count + 1)))
 
 
 def rest(unit, mtu):
@@ -108,7 +109,7 @@ def rest(unit, mtu):
     roll = dice.below(10)
     packets = len(unit) // max(1, mtu - 1) + 3
     if roll == 0:
-        return min(MOST_NUMBERS, dice.below(5 * packets)), MOST_OUTPUT
+        return min(MOST_NUMBERS, dice.below(PLAN_NUMBERS * packets)), MOST_OUTPUT
     if roll == 1:
         return MOST_NUMBERS, min(MOST_OUTPUT, dice.below(len(unit) + 2 * packets))
     return MOST_NUMBERS, MOST_OUTPUT

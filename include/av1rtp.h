@@ -16,8 +16,8 @@
  * OBU that is in neither. No receiver can tell. So each train is given to a state of its own, fresh at its start, and trains are
  * never joined, neither as files nor packet by packet.
  *
- * FOR INSPECTION ONLY. The OBU list and the plan say where things stand in one unit. They are there to be looked at and checked; no
- * position from them goes into an export. What leaves the house is trains.
+ * FOR INSPECTION ONLY. The OBU list and the plan say where things stand in one unit and in its payloads. They are there to be looked
+ * at and checked; no position from them goes into an export. What leaves the house is trains.
  *
  * ANSWERS. A call returns 0, or the number of a refusal, and fills four words:
  *   answer[0]       the offset that a refusal carries (R2 to R8: of the OBU's header byte in the unit), else 0
@@ -40,7 +40,7 @@ extern "C" {
 #define AV1RTP_FRAGMENT_LIMIT 1048576 /* bytes of an open fragment */
 
 #define AV1RTP_OBU_NUMBERS 5   /* numbers of a record in an OBU list: header, extension byte or 0, payload start, payload length, size */
-#define AV1RTP_PLAN_NUMBERS 5  /* of a record in a plan: first OBU, elements, first offset, last size, packet size */
+#define AV1RTP_PLAN_NUMBERS 6  /* of a record in a plan: first OBU, elements, first offset, last size, packet size, payload start */
 #define AV1RTP_ANSWER_WORDS 4
 #define AV1RTP_STATE_WORDS 3   /* begun (0 or 1), last number taken, open length; {0, 0, 0} is fresh */
 
@@ -60,7 +60,8 @@ enum av1rtp_refusal {
     /* leaves OBU list and plan filled, the output as it was */
     AV1RTP_NO_ROOM_FOR_PAYLOADS = 10, /* the payloads together are longer than the output */
     /* header */
-    AV1RTP_NO_USABLE_PACKET = 11, /* no record k, or one of no element, or one with OBUs beyond the list */
+    AV1RTP_NO_USABLE_PACKET = 11, /* no record k, or one of no element, or with OBUs beyond the list, or whose payload start, packet
+                                   * size and 1 add up to more than 4294967295 */
     /* receive: these leave state, store and output as they were. element gives 13, 15, 16 and 17 */
     AV1RTP_STATE_IMPOSSIBLE = 12, /* the state's open length is above the store's length or the fragment's limit */
     AV1RTP_PAYLOAD_LENGTH = 13,   /* payload empty or over its limit */
@@ -84,14 +85,15 @@ enum av1rtp_refusal {
  * answer: offset, OBUs. Refusals 2 to 8. */
 uint32_t av1rtp_list(const uint8_t *unit, size_t unit_length, uint32_t *obus, size_t obus_length, size_t answer[4]);
 
-/* The same, and the plan: which bytes of which kept OBUs go into which packet, as records of AV1RTP_PLAN_NUMBERS numbers, first in
- * `plan`. There are at most as many records as the kept OBUs have bytes.
+/* The same, and the plan: which bytes of which kept OBUs go into which packet, and where its payload starts among all payloads, as
+ * records of AV1RTP_PLAN_NUMBERS numbers, first in `plan`. There are at most as many records as the kept OBUs have bytes.
  * answer: offset, OBUs, packets. Refusals 1 to 9. */
 uint32_t av1rtp_plan(size_t mtu, const uint8_t *unit, size_t unit_length, uint32_t *obus, size_t obus_length, uint32_t *plan,
                      size_t plan_length, size_t answer[4]);
 
-/* The same, and the payloads, one right after the other from the start of `out`. That of packet k has 1 byte more than the last
- * number of plan record k, and at most mtu bytes. Lists of as many records as the unit has bytes always do.
+/* The same, and the payloads, one right after the other from the start of `out`. That of packet k starts in `out` at the last number
+ * of plan record k, and has 1 byte more than the packet size before it, and at most mtu bytes. Lists of as many records as the unit
+ * has bytes always do.
  * answer: offset, OBUs, packets, bytes. Refusals 1 to 10. */
 uint32_t av1rtp_payload(size_t mtu, const uint8_t *unit, size_t unit_length, uint32_t *obus, size_t obus_length, uint32_t *plan,
                         size_t plan_length, uint8_t *out, size_t out_length, size_t answer[4]);

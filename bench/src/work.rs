@@ -61,12 +61,11 @@ impl Work {
             unit,
         };
         work.ours();
-        let mut rest = &work.out[..];
-        for (k, their) in theirs.iter().enumerate() {
-            let (our, after) = rest.split_at(work.plan[k * PLAN_NUMBERS + 4] as usize + 1);
+        for (k, (their, record)) in theirs.iter().zip(work.plan.chunks(PLAN_NUMBERS)).enumerate() {
+            let (packet_size, payload_start) = (record[4] as usize, record[5] as usize);
+            let our = &work.out[payload_start..payload_start + packet_size + 1];
             assert!(our == their || our.len() < their.len(), "payload {k} differs");
             work.payloads.push(our.to_vec());
-            rest = after;
         }
         work.back();
         assert!(work.back[..work.unit.len()] == work.unit[..], "what comes back is not the unit");

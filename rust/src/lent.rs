@@ -8,8 +8,8 @@ use crate::{Reason, Refusal};
 /// The numbers of a record in an OBU list: header, extension byte or 0, payload start, payload length, size.
 pub const OBU_NUMBERS: usize = 5;
 
-/// The numbers of a record in a plan: first OBU, elements, first offset, last size, packet size.
-pub const PLAN_NUMBERS: usize = 5;
+/// The numbers of a record in a plan: first OBU, elements, first offset, last size, packet size, payload start.
+pub const PLAN_NUMBERS: usize = 6;
 
 /// What the plan call finds.
 #[derive(Clone, Copy, Debug, PartialEq, Eq)]
@@ -20,7 +20,8 @@ pub struct Planned {
     pub packets: usize,
 }
 
-/// What the payload call writes. The payload of packet k has one byte more than its record's packet size.
+/// What the payload call writes. The payload of packet k begins at its record's payload start in the output, and has one byte more
+/// than its packet size.
 #[derive(Clone, Copy, Debug, PartialEq, Eq)]
 pub struct Payloads {
     /// Kept OBUs, whose records are first in the OBU list.

@@ -18,7 +18,8 @@ pub struct Obu {
     pub size: usize,
 }
 
-/// A packet of a plan, under the names of the crate rtp. For inspection: no position goes into an export.
+/// A packet of a plan, under the names of the crate rtp, and where its payload starts. For inspection: no position goes into an
+/// export.
 #[derive(Clone, Copy, Debug, PartialEq, Eq)]
 pub struct PacketMetadata {
     /// The OBU of the first element.
@@ -31,6 +32,8 @@ pub struct PacketMetadata {
     pub last_obu_size: usize,
     /// The payload without its aggregation header byte.
     pub packet_size: usize,
+    /// Where the payload starts if all payloads of the unit stand one after the other: the lengths of those before it, added up.
+    pub payload_start: usize,
 }
 
 /// Kept OBUs and packets of a unit.
@@ -112,13 +115,13 @@ impl Payloader {
     fn make_room(&mut self, refusal: Refusal, mtu: usize, unit: &[u8]) -> Result<(), Refusal> {
         let records = unit.len();
         let grown = match refusal.reason() {
-            Reason::ObuListFull => double(&mut self.obus, records * OBU_NUMBERS),
-            Reason::PlanListFull => double(&mut self.plan, records * PLAN_NUMBERS),
+            Reason::ObuListFull => double(&mut self.obus, OBU_NUMBERS, records),
+            Reason::PlanListFull => double(&mut self.plan, PLAN_NUMBERS, records),
             Reason::NoRoomForPayloads => {
                 let planned = lent::plan(mtu, unit, &mut self.obus, &mut self.plan)?;
-                let bytes = self.packets(planned.packets).iter().map(|p| p.packet_size + 1).sum();
+                let last = self.packets(planned.packets).pop();
                 let before = self.out.len();
-                at_least(&mut self.out, bytes);
+                at_least(&mut self.out, last.map_or(0, |p| p.payload_start + p.packet_size + 1));
                 self.out.len() > before
             }
             _ => false,
@@ -152,19 +155,18 @@ impl Payloader {
                 first_obu_offset: r[2] as usize,
                 last_obu_size: r[3] as usize,
                 packet_size: r[4] as usize,
+                payload_start: r[5] as usize,
             })
             .collect()
     }
 
     /// The payloads that stand one after the other in the output.
     fn split(&self, packets: usize) -> Vec<Vec<u8>> {
-        let mut rest = &self.out[..];
         let records = self.plan[..packets * PLAN_NUMBERS].chunks_exact(PLAN_NUMBERS);
         records
             .map(|r| {
-                let (payload, after) = rest.split_at(r[4] as usize + 1);
-                rest = after;
-                payload.to_vec()
+                let (packet_size, payload_start) = (r[4] as usize, r[5] as usize);
+                self.out[payload_start..payload_start + packet_size + 1].to_vec()
             })
             .collect()
     }
@@ -176,10 +178,10 @@ fn at_least<T: Clone + Default>(list: &mut Vec<T>, length: usize) {
     }
 }
 
-/// Twice as long, or as long as can be needed; whether it grew.
-fn double(list: &mut Vec<u32>, most: usize) -> bool {
+/// Twice as long, or as long as can be needed, which is so many records of so many numbers; whether it grew.
+fn double(list: &mut Vec<u32>, numbers: usize, records: usize) -> bool {
     let before = list.len();
-    at_least(list, (2 * before).max(FIRST_RECORDS * OBU_NUMBERS).min(most));
+    at_least(list, (2 * before).max(FIRST_RECORDS * numbers).min(records * numbers));
     list.len() > before
 }
 

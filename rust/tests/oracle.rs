@@ -47,7 +47,7 @@ fn joined(parts: Vec<String>, between: &str) -> String {
     }
 }
 
-/// The oracle's line for a unit that is accepted: OBUs, plan, headers, payloads.
+/// The oracle's line for a unit that is accepted: OBUs, plan, headers, payloads. The crate's plan keeps no start of a payload.
 fn line_for(unit: &[u8], mtu: usize) -> Result<String, av1rtp::Refusal> {
     let payloads = av1rtp::payload(unit, mtu)?;
     let plan = av1rtp::plan(unit, mtu)?;
@@ -61,8 +61,8 @@ fn line_for(unit: &[u8], mtu: usize) -> Result<String, av1rtp::Refusal> {
         let (first, n, offset) = (p.first_obu_index, p.num_obu_elements, p.first_obu_offset);
         format!("{first},{n},{offset},{},{}", p.last_obu_size, p.packet_size)
     });
-    let mut flat_obus = vec![0; 5 * plan.obus.len()];
-    let mut flat_plan = vec![0; 5 * plan.packets.len()];
+    let mut flat_obus = vec![0; lent::OBU_NUMBERS * plan.obus.len()];
+    let mut flat_plan = vec![0; lent::PLAN_NUMBERS * plan.packets.len()];
     lent::plan(mtu, unit, &mut flat_obus, &mut flat_plan)?;
     let headers =
         (0..payloads.len()).map(|k| format!("{:02X}", lent::header(&flat_obus, &flat_plan, k).unwrap()));

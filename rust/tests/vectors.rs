@@ -1,6 +1,7 @@
 //! Replays the fixed list of answers that `crates/vectors` replays; the expected answers come from `compare/rules.py`.
 mod common;
-use av1rtp::{lent, Obu, PacketMetadata, Reason};
+use av1rtp::lent::{self, OBU_NUMBERS, PLAN_NUMBERS};
+use av1rtp::{Obu, PacketMetadata, Reason};
 use common::{ample, hex, repository, unhex};
 use std::fs::read_to_string;
 
@@ -32,9 +33,10 @@ fn case_of(line: &str) -> Case {
     Case { mtu, obus, plan, output, unit }
 }
 
-fn records(list: &[u32]) -> String {
+/// The records of a list, each of so many numbers.
+fn records(list: &[u32], numbers: usize) -> String {
     let record = |r: &[u32]| r.iter().map(u32::to_string).collect::<Vec<_>>().join(",");
-    list.chunks(5).map(record).collect::<Vec<_>>().join(";")
+    list.chunks(numbers).map(record).collect::<Vec<_>>().join(";")
 }
 
 /// The records of the case's OBU list and plan.
@@ -45,10 +47,14 @@ fn filled_lists(case: &Case) -> (Vec<u32>, Vec<u32>) {
     };
     let obu = |o: &Obu| [o.header as usize, o.extension as usize, o.start, o.length, o.size];
     let packet = |p: &PacketMetadata| {
-        [p.first_obu_index, p.num_obu_elements, p.first_obu_offset, p.last_obu_size, p.packet_size]
+        let (first, elements, offset) = (p.first_obu_index, p.num_obu_elements, p.first_obu_offset);
+        [first, elements, offset, p.last_obu_size, p.packet_size, p.payload_start]
     };
-    let flat = |records: Vec<[usize; 5]>| records.iter().flatten().map(|&n| n as u32).collect();
-    (flat(plan.obus.iter().map(obu).collect()), flat(plan.packets.iter().map(packet).collect()))
+    let number = |n| n as u32;
+    (
+        plan.obus.iter().flat_map(obu).map(number).collect(),
+        plan.packets.iter().flat_map(packet).map(number).collect(),
+    )
 }
 
 /// The payload call's answer as a line, and whether everything lent is as the rules say (C5 to C10).
@@ -58,7 +64,7 @@ fn answer_to(case: &Case) -> String {
     let mut out = vec![OLD_BYTE; case.output];
     let answer = lent::payload(case.mtu, &case.unit, &mut obus, &mut plan, &mut out);
     let (listed, planned, bytes) = match answer {
-        Ok(written) => (5 * written.obus, 5 * written.packets, written.bytes),
+        Ok(written) => (OBU_NUMBERS * written.obus, PLAN_NUMBERS * written.packets, written.bytes),
         Err(refusal) => {
             let filled = |list: &[u32]| list.iter().position(|&n| n == OLD_NUMBER).unwrap_or(list.len());
             let listed = if refusal.number() >= 9 { filled(&obus) } else { 0 };
@@ -81,19 +87,22 @@ fn answer_to(case: &Case) -> String {
     let (obus, plan) = (&obus[..listed], &plan[..planned]);
     let mut line = format!("obus {}", written.obus);
     if written.obus > 0 {
-        line += &format!(" {}", records(obus));
+        line += &format!(" {}", records(obus, OBU_NUMBERS));
     }
     line += &format!(" packets {}", written.packets);
     if written.packets > 0 {
         let headers = (0..written.packets).map(|k| format!("{:02X}", lent::header(obus, plan, k).unwrap()));
         let mut at = 0;
-        let payloads = plan.chunks(5).map(|r| {
+        let payloads = plan.chunks(PLAN_NUMBERS).map(|r| {
+            let start = at;
+            assert_eq!(r[5] as usize, start);
             at += r[4] as usize + 1;
-            hex(&out[at - r[4] as usize - 1..at])
+            hex(&out[start..at])
         });
         let payloads: Vec<String> = payloads.collect();
         let headers: Vec<String> = headers.collect();
-        line += &format!(" {} headers {} payloads {}", records(plan), headers.join(","), payloads.join(","));
+        let plan = records(plan, PLAN_NUMBERS);
+        line += &format!(" {plan} headers {} payloads {}", headers.join(","), payloads.join(","));
         assert_eq!(at, bytes);
     }
     line
@@ -125,8 +134,13 @@ fn fixed_list_with_lists_that_grow() {
         assert!(payloader.payload(case.mtu, &case.unit) == wanted, "line {}", i + 1);
         match (av1rtp::plan(&case.unit, case.mtu), &wanted) {
             (Ok(plan), Ok(payloads)) => {
-                let sizes: Vec<usize> = plan.packets.iter().map(|p| p.packet_size + 1).collect();
-                assert!(sizes == payloads.iter().map(Vec::len).collect::<Vec<_>>(), "line {}", i + 1);
+                let mut end = 0;
+                let places = payloads.iter().map(|payload| {
+                    end += payload.len();
+                    (end - payload.len(), payload.len())
+                });
+                let planned = plan.packets.iter().map(|p| (p.payload_start, p.packet_size + 1));
+                assert!(planned.eq(places), "line {}", i + 1);
                 assert_eq!(av1rtp::list(&case.unit), Ok(plan.obus));
             }
             (Err(refusal), Err(wanted)) => assert_eq!(refusal, *wanted),
@@ -139,7 +153,24 @@ fn fixed_list_with_lists_that_grow() {
 fn header_without_a_packet() {
     let reason = |obus: &[u32], plan: &[u32], k| lent::header(obus, plan, k).unwrap_err().reason();
     assert_eq!(reason(&[], &[], 0), Reason::NoUsablePacket);
-    assert_eq!(reason(&[48, 0, 0, 0, 1], &[0, 1, 0, 1, 1], 1), Reason::NoUsablePacket);
-    assert_eq!(reason(&[48, 0, 0, 0, 1], &[0, 0, 0, 1, 1], 0), Reason::NoUsablePacket);
-    assert_eq!(reason(&[48, 0, 0, 0, 1], &[u32::MAX, u32::MAX, 0, 1, 1], 0), Reason::NoUsablePacket);
+    assert_eq!(reason(&[48, 0, 0, 0, 1], &[0, 1, 0, 1, 1, 0], 1), Reason::NoUsablePacket);
+    assert_eq!(reason(&[48, 0, 0, 0, 1], &[0, 1, 0, 1, 1], 0), Reason::NoUsablePacket);
+    assert_eq!(reason(&[48, 0, 0, 0, 1], &[0, 0, 0, 1, 1, 0], 0), Reason::NoUsablePacket);
+    assert_eq!(reason(&[48, 0, 0, 0, 1], &[u32::MAX, u32::MAX, 0, 1, 1, 0], 0), Reason::NoUsablePacket);
+}
+
+/// Payload start, packet size and 1 add up to 4,294,967,295 at the most, in the record asked for; what others have does not count.
+#[test]
+fn header_of_a_payload_that_ends_too_far() {
+    const MOST: u32 = u32::MAX;
+    let header = |packet_size, payload_start| {
+        let plan = [0, 1, 0, 1, 1, MOST, 0, 1, 0, 1, packet_size, payload_start];
+        lent::header(&[48, 0, 0, 0, 1], &plan, 1).map_err(|refusal| refusal.reason())
+    };
+    for (packet_size, payload_start) in [(1, MOST - 2), (0, MOST - 1), (MOST - 1, 0)] {
+        assert_eq!(header(packet_size, payload_start), Ok(0x10));
+    }
+    for (packet_size, payload_start) in [(1, MOST - 1), (0, MOST), (MOST, 0), (MOST, MOST)] {
+        assert_eq!(header(packet_size, payload_start), Err(Reason::NoUsablePacket));
+    }
 }

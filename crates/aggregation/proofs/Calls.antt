@@ -21,9 +21,11 @@ last-there n p e =
     split-on (eqb (p .«num_obu_elements») 0)
     (λ z. absurd (true≢false (rw z at e)))
     (λ z.
-    let s : ltb n (p .«first_obu_index» + p .«num_obu_elements») ≡ false = rw z at e in
+    split-on (ltb n (p .«first_obu_index» + p .«num_obu_elements»))
+    (λ s. absurd (true≢false (rw (z, s) at e)))
+    (λ s.
     let u : p .«num_obu_elements» ≡ 0 → ⊥ = eqb-false _ _ z in
-    omega (arith, ltb-false n (p .«first_obu_index» + p .«num_obu_elements») s))
+    omega (arith, ltb-false n (p .«first_obu_index» + p .«num_obu_elements») s)))
 
 -- what `last_of` answers says whether the record lacks something
 module _ (n i : ℕ) (p : PacketMetadata) (is : i ≡ cond (lacking n p) n (lastObu p)) where

@@ -9,6 +9,7 @@ use Rattle.base.specs.Answers.{given}
 use Rattle.obu.specs.Records.{flat, noObu, obusIn}
 use Rattle.obu.specs.declared.Obu.{Obu}
 use Rattle.obu.proofs.Records.{readBack, low-type, obus-flat}
+use Rattle.packetizer.specs.Plan.{startAfter, startLimit}
 use Rattle.packetizer.specs.Records.{flatPlan, noPacket, packetsIn}
 use Rattle.packetizer.specs.declared.PacketMetadata.{PacketMetadata}
 use Rattle.packetizer.proofs.Records.{packets-flat}
@@ -35,13 +36,14 @@ header-back os ps k = rw (count-back os, byte-back os (getD ps k noPacket) k)
 pub alike : (os : List Obu) (ps : List PacketMetadata) (k : ℕ) → headerOf (obusIn (flat os)) (packetsIn (flatPlan ps)) k ≡ headerOf os ps k
 alike os ps k = rw (obus-flat os, packets-flat ps) (header-back os ps k)
 
--- record k is there, with elements, and its OBUs are
+-- record k is there, with elements, its OBUs are, and its payload ends within L17
 pub header-given : (os : List Obu) (ps : List PacketMetadata) (k : ℕ) → k < length ps → 1 ≤ getD ps k noPacket .«num_obu_elements»
     → getD ps k noPacket .«first_obu_index» + getD ps k noPacket .«num_obu_elements» ≤ length os
+    → startAfter (getD ps k noPacket) ≤ startLimit
     → headerOf os ps k ≡ given (byteOf os (getD ps k noPacket) k)
 unfolding headerOf
-header-given os ps k there some whole =
-    rw (lt-leb (length ps) k there, ne-eqb (getD ps k noPacket .«num_obu_elements») 0 (λ e. omega arith), le-ltb (length os) _ whole)
+header-given os ps k there some whole near =
+    rw (lt-leb (length ps) k there, ne-eqb (getD ps k noPacket .«num_obu_elements») 0 (λ e. omega arith), le-ltb (length os) _ whole, le-ltb startLimit _ near)
 
 -- N stands with Z on no packet of a plan that begins with the start of an OBU
 pub new-starts : (os : List Obu) (ps : List PacketMetadata) (k : ℕ) → getD ps 0 noPacket .«first_obu_offset» ≡ 0

@@ -17,15 +17,15 @@ none = refused 11 0
 
 units :
     -- U5 (G13)
-    headers (0x0a ∷ 0 ∷ 2 ∷ 1 ∷ 2 ∷ 0x32 ∷ 0 ∷ 5 ∷ 0 ∷ 1 ∷ []) (0 ∷ 1 ∷ 0 ∷ 2 ∷ 2 ∷ 1 ∷ 1 ∷ 0 ∷ 1 ∷ 1 ∷ [])
+    headers (0x0a ∷ 0 ∷ 2 ∷ 1 ∷ 2 ∷ 0x32 ∷ 0 ∷ 5 ∷ 0 ∷ 1 ∷ []) (0 ∷ 1 ∷ 0 ∷ 2 ∷ 2 ∷ 0 ∷ 1 ∷ 1 ∷ 0 ∷ 1 ∷ 1 ∷ 3 ∷ [])
     -- U6 and U7
-    ∷ headers (0x0a ∷ 0 ∷ 4 ∷ 3 ∷ 4 ∷ 0x32 ∷ 0 ∷ 9 ∷ 5 ∷ 6 ∷ []) (0 ∷ 2 ∷ 0 ∷ 6 ∷ 11 ∷ [])
+    ∷ headers (0x0a ∷ 0 ∷ 4 ∷ 3 ∷ 4 ∷ 0x32 ∷ 0 ∷ 9 ∷ 5 ∷ 6 ∷ []) (0 ∷ 2 ∷ 0 ∷ 6 ∷ 11 ∷ 0 ∷ [])
     ∷ headers (0x0a ∷ 0 ∷ 4 ∷ 3 ∷ 4 ∷ 0x32 ∷ 0 ∷ 9 ∷ 5 ∷ 6 ∷ [])
-    (0 ∷ 1 ∷ 0 ∷ 2 ∷ 2 ∷ 0 ∷ 1 ∷ 2 ∷ 2 ∷ 2 ∷ 1 ∷ 1 ∷ 0 ∷ 2 ∷ 2 ∷ 1 ∷ 1 ∷ 2 ∷ 2 ∷ 2 ∷ 1 ∷ 1 ∷ 4 ∷ 2 ∷ 2 ∷ [])
+    (0 ∷ 1 ∷ 0 ∷ 2 ∷ 2 ∷ 0 ∷ 0 ∷ 1 ∷ 2 ∷ 2 ∷ 2 ∷ 3 ∷ 1 ∷ 1 ∷ 0 ∷ 2 ∷ 2 ∷ 6 ∷ 1 ∷ 1 ∷ 2 ∷ 2 ∷ 2 ∷ 9 ∷ 1 ∷ 1 ∷ 4 ∷ 2 ∷ 2 ∷ 12 ∷ [])
     -- U8, U9 and U10
-    ∷ headers (0x32 ∷ 0 ∷ 2 ∷ 0 ∷ 1 ∷ 0x32 ∷ 0 ∷ 4 ∷ 0 ∷ 1 ∷ 0x32 ∷ 0 ∷ 6 ∷ 0 ∷ 1 ∷ []) (0 ∷ 3 ∷ 0 ∷ 1 ∷ 5 ∷ [])
-    ∷ headers (0x32 ∷ 0 ∷ 2 ∷ 0 ∷ 1 ∷ 0x32 ∷ 0 ∷ 4 ∷ 0 ∷ 1 ∷ 0x32 ∷ 0 ∷ 6 ∷ 0 ∷ 1 ∷ 0x32 ∷ 0 ∷ 8 ∷ 0 ∷ 1 ∷ []) (0 ∷ 4 ∷ 0 ∷ 1 ∷ 8 ∷ [])
-    ∷ headers (0x34 ∷ 8 ∷ 2 ∷ 0 ∷ 2 ∷ []) (0 ∷ 1 ∷ 0 ∷ 1 ∷ 1 ∷ 0 ∷ 1 ∷ 1 ∷ 1 ∷ 1 ∷ [])
+    ∷ headers (0x32 ∷ 0 ∷ 2 ∷ 0 ∷ 1 ∷ 0x32 ∷ 0 ∷ 4 ∷ 0 ∷ 1 ∷ 0x32 ∷ 0 ∷ 6 ∷ 0 ∷ 1 ∷ []) (0 ∷ 3 ∷ 0 ∷ 1 ∷ 5 ∷ 0 ∷ [])
+    ∷ headers (0x32 ∷ 0 ∷ 2 ∷ 0 ∷ 1 ∷ 0x32 ∷ 0 ∷ 4 ∷ 0 ∷ 1 ∷ 0x32 ∷ 0 ∷ 6 ∷ 0 ∷ 1 ∷ 0x32 ∷ 0 ∷ 8 ∷ 0 ∷ 1 ∷ []) (0 ∷ 4 ∷ 0 ∷ 1 ∷ 8 ∷ 0 ∷ [])
+    ∷ headers (0x34 ∷ 8 ∷ 2 ∷ 0 ∷ 2 ∷ []) (0 ∷ 1 ∷ 0 ∷ 1 ∷ 1 ∷ 0 ∷ 0 ∷ 1 ∷ 1 ∷ 1 ∷ 1 ∷ 2 ∷ [])
     ∷ []
     ≡ (given 0x18 ∷ given 0x10 ∷ none ∷ none ∷ none ∷ none ∷ [])
     ∷ (given 0x28 ∷ none ∷ none ∷ none ∷ none ∷ none ∷ [])
@@ -37,10 +37,18 @@ units :
 unfolding headers none headerOf byteOf nOf recordsFrom
 units = refl
 
--- a header above 255, Z and N both, a sum beyond 32 bits, OBUs beyond the list, no element, an unfinished record
+-- a header above 255, Z and N both, a sum beyond 32 bits; OBUs beyond the list, no element, an unfinished record
 odd :
     headers (0x10a ∷ 0 ∷ 0 ∷ 0 ∷ 4294967295 ∷ 0x32 ∷ 0 ∷ 0 ∷ 0 ∷ [])
-    (0 ∷ 1 ∷ 4294967295 ∷ 4294967295 ∷ 0 ∷ 0 ∷ 2 ∷ 0 ∷ 1 ∷ 1 ∷ 4294967295 ∷ 1 ∷ 0 ∷ 1 ∷ 1 ∷ 0 ∷ 0 ∷ 0 ∷ 1 ∷ 1 ∷ 0 ∷ 1 ∷ 0 ∷ 1 ∷ [])
+    (0 ∷ 1 ∷ 4294967295 ∷ 4294967295 ∷ 0 ∷ 0 ∷ 0 ∷ 2 ∷ 0 ∷ 1 ∷ 1 ∷ 0 ∷ 4294967295 ∷ 1 ∷ 0 ∷ 1 ∷ 1 ∷ 0 ∷ 0 ∷ 0 ∷ 0 ∷ 1 ∷ 1 ∷ 0 ∷ 0 ∷ 1 ∷ 0 ∷ 1 ∷ 1 ∷ [])
     ≡ given 0x98 ∷ none ∷ none ∷ none ∷ none ∷ none ∷ []
 unfolding headers none headerOf byteOf nOf recordsFrom
 odd = refl
+
+-- a payload that ends at the limit, and some that end beyond it: by one, by a packet size of 32 bits, by both
+starts :
+    headers (0x0a ∷ 0 ∷ 2 ∷ 1 ∷ 2 ∷ [])
+    (0 ∷ 1 ∷ 0 ∷ 2 ∷ 2 ∷ 4294967292 ∷ 0 ∷ 1 ∷ 0 ∷ 2 ∷ 2 ∷ 4294967293 ∷ 0 ∷ 1 ∷ 0 ∷ 2 ∷ 4294967295 ∷ 0 ∷ 0 ∷ 1 ∷ 0 ∷ 2 ∷ 4294967295 ∷ 4294967295 ∷ 0 ∷ 1 ∷ 0 ∷ 2 ∷ 4294967294 ∷ 0 ∷ [])
+    ≡ given 0x18 ∷ none ∷ none ∷ none ∷ given 0x10 ∷ none ∷ []
+unfolding headers none headerOf byteOf nOf recordsFrom
+starts = refl

@@ -8,7 +8,7 @@ use Rattle.base.specs.Answers.{Answer, given, refused}
 use Rattle.obu.specs.Header.{typeOf}
 use Rattle.obu.specs.Records.{noObu}
 use Rattle.obu.specs.declared.Obu.{Obu}
-use Rattle.packetizer.specs.Plan.{mostCounted}
+use Rattle.packetizer.specs.Plan.{mostCounted, startAfter, startLimit}
 use Rattle.packetizer.specs.Records.{noPacket}
 use Rattle.packetizer.specs.declared.PacketMetadata.{PacketMetadata}
 
@@ -39,9 +39,11 @@ nOf obus k = cond (eqb k 0 && eqb (typeOf (getD obus 0 noObu .header)) 1) 8 0
 unfoldable pub byteOf : List Obu → PacketMetadata → ℕ → ℕ
 byteOf obus p k = zOf p + yOf p (getD obus (lastObu p) noObu .size) + 16 * wOf p + nOf obus k
 
--- a record of no element, or with OBUs beyond a list of n
+-- a record of no element, or with OBUs beyond a list of n, or whose payload ends beyond L17
 abbrev pub lacking : ℕ → PacketMetadata → Bool
-lacking n p = eqb (p .«num_obu_elements») 0 || ltb n (p .«first_obu_index» + p .«num_obu_elements»)
+lacking n p =
+    eqb (p .«num_obu_elements») 0
+    || (ltb n (p .«first_obu_index» + p .«num_obu_elements») || ltb startLimit (startAfter p))
 
 unfoldable pub headerOf : List Obu → List PacketMetadata → ℕ → Answer ℕ
 headerOf obus packets k =

@@ -81,7 +81,7 @@ fn rule(p: PacketMetadata, size: u32, first_header: u8, k: usize) -> HeaderAnswe
     HeaderAnswer::Header(z_bit(p) | y_bit(p, size) | w_bits(p) | n_bit(first_header, k))
 }
 
-// Which of n OBUs the last element belongs to, or n if the record has no element or OBUs beyond them.
+// Which of n OBUs the last element belongs to, or n if the record has no element, OBUs beyond them, or an end beyond L17.
 fn last_of(p: PacketMetadata, n: usize) -> usize
     ensures { λ r. ⌜ r ≡ cond (lacking n p) n (lastObu p) ⌝ }
 {
@@ -89,11 +89,14 @@ fn last_of(p: PacketMetadata, n: usize) -> usize
         return n;
     }
     let end = (p.first_obu_index as u64) + (p.num_obu_elements as u64);
-    if end <= (n as u64) {
-        (end - 1) as usize
-    } else {
-        n
+    if end > (n as u64) {
+        return n;
     }
+    let after = (p.payload_start as u64) + (p.packet_size as u64) + 1;
+    if after > packetizer::START_LIMIT {
+        return n;
+    }
+    (end - 1) as usize
 }
 
 // From flat lists of any numbers.

@@ -2,9 +2,10 @@
 use mathlib.Core.Path.{_≡_}
 use mathlib.Core.List.{map}
 use Rattle.payloader.proofs.Totals as totals
+use Rattle.payloader.proofs.Starts as starts
 use Rattle.payload_laws.proofs.Lengths as lengths
 use Rattle.payload_laws.proofs.Rows as rows
-use Rattle.claims.specs.Payloads.{PayloadAt, PayloadSize, PayloadFits, JoinedLength}
+use Rattle.claims.specs.Payloads.{PayloadAt, PayloadSize, PayloadFits, JoinedLength, StartIs, PayloadStands}
 
 pub payload-at : PayloadAt
 payload-at = lengths.payload-at
@@ -17,6 +18,12 @@ payload-fits = lengths.payload-fits
 
 pub joined-length : JoinedLength
 joined-length = totals.joined-length
+
+pub start-is : StartIs
+start-is = starts.start-is
+
+pub payload-stands : PayloadStands
+payload-stands = starts.payload-stands
 
 -- the rows of U marked P, computed
 

@@ -5,7 +5,7 @@ use native.Mathlib.Nat.{add-zero}
 use native.Mathlib.Omega.{arith}
 use mathlib.Core.List.{List, [], _∷_, _++_, append-nil, append-assoc, map}
 use mathlib.Core.Bool.{Bool, cond}
-use lib.ListN.{length, getD, take, drop, length-map, length-drop, List·getD-map}
+use lib.ListN.{length, getD, take, drop, length-map, length-drop}
 use lib.Seq.{take-all}
 use lib.Dec.{ltb}
 use borrow.Author.Tests.{ne-eqb}
@@ -26,8 +26,8 @@ use Rattle.payloader.proofs.Bodies.{sent-size, part-length}
 use Rattle.crate_laws.specs.Rust.{Outcome, ok}
 use Rattle.crate_laws.specs.Payload.{putLength, storeFrom, packetBytes}
 use Rattle.crate_laws.specs.Pieces.{writtenBy, crateNew, crateWriter, zywOf, packetPieces}
-use Rattle.crate_laws.specs.Same.{asCrate}
-use Rattle.crate_laws.proofs.Steps.{at-is, minus-is}
+use Rattle.crate_laws.specs.Same.{asCrate, asCratePacket, cratePackets}
+use Rattle.crate_laws.proofs.Steps.{at-map, minus-is}
 use Rattle.crate_laws.proofs.Headers.{header-same}
 use Rattle.crate_laws.proofs.Elements.{element-is, last-is}
 use Rattle.crate_laws.proofs.Pieces.{packet-written}
@@ -51,9 +51,6 @@ module _ (unit : List ℕ) (obus : List Obu) where
   start-zero (suc n) = refl
 
   module _ (all : (i : ℕ) → i < length obus → Lies unit (obu i)) where
-    count : length (map (asCrate unit) obus) ≡ length obus
-    count = length-map obus (asCrate unit)
-
     -- a part that runs to the end of its OBU
     whole : (i offset : ℕ) → i < length obus → offset ≤ obu i .size → take (obu i .size - offset) (drop offset (sent unit (obu i))) ≡ drop offset (sent unit (obu i))
     whole i offset h b =
@@ -68,8 +65,7 @@ module _ (unit : List ℕ) (obus : List Obu) where
         let l : Lies unit (obu i) = all i (omega arith) in
         let w : List ℕ = putLength (obu i .size - offset) ++ drop offset (sent unit (obu i)) in
         rw (
-          at-is (asCrate unit noObu) (map (asCrate unit) obus) i (omega (arith, count)),
-          List·getD-map (asCrate unit) obus i noObu,
+          at-map (asCrate unit) noObu obus i (omega arith),
           element-is unit (obu i) l offset (b (omega arith)),
         )
         (store-is n (i + 1) 0 (out ++ w) (omega arith) (λ z. omega arith) ∙ rw (start-zero n, append-assoc out w (wholes n (i + 1) 0)))
@@ -140,17 +136,16 @@ module _ (unit : List ℕ) (obus : List Obu) where
       abbrev first : ℕ
       first = zywOf obus p + crateNew (map (asCrate unit) obus) k
 
-      pub packet-is : packetBytes (map (asCrate unit) obus) packets k ≡ ok (writtenBy (crateWriter (map (asCrate unit) obus)) (packetPieces unit obus k p))
+      pub packet-is : packetBytes (map (asCrate unit) obus) (cratePackets packets) k ≡ ok (writtenBy (crateWriter (map (asCrate unit) obus)) (packetPieces unit obus k p))
       unfolding packetBytes
       packet-is =
           rw (
-            at-is noPacket packets k there,
+            at-map asCratePacket noPacket packets k there,
             header-same unit obus packets k there (sound .some) inside,
             minus-is (p .«num_obu_elements») 1 (sound .some),
             store-is n i o (first ∷ []) (omega (arith, sound .some, inside)) (λ z. begins),
             minus-is (i + p .«num_obu_elements») 1 (omega (arith, sound .some)),
-            at-is (asCrate unit noObu) (map (asCrate unit) obus) (lastObu p) (omega (arith, sound .some, inside, count)),
-            List·getD-map (asCrate unit) obus (lastObu p) noObu,
+            at-map (asCrate unit) noObu obus (lastObu p) (omega (arith, sound .some, inside)),
             last-at,
             last-is unit (obu (i + n)) (all (i + n) (omega (arith, sound .some, inside))) (startAfter n o) (p .«last_obu_size») fits,
           )

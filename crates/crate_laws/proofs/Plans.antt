@@ -12,11 +12,10 @@ use borrow.Author.Tests.{ltb-true, ltb-false, leb-false, eqb-false, le-ltb}
 use Rattle.base.proofs.Tests.{by-cond, split-on}
 use Rattle.leb128.specs.Field.{largestValue}
 use Rattle.packetizer.specs.Laws.{Positive}
-use Rattle.packetizer.specs.declared.PacketMetadata.{PacketMetadata}
 use Rattle.crate_laws.specs.Rust.{Outcome, ok, push, pop}
 use Rattle.crate_laws.specs.Obu.{CrateObu}
 use Rattle.crate_laws.specs.Packetizer as crate
-use Rattle.crate_laws.specs.Packetizer.{newPacket, «additional_bytes_for_previous_obu_element», startsNew, fragmentTurns, «max_fragment_size», Packing, Opened, entered, mustWrite, requiredBytes, withFragment, Reached, middles, spreadOver, withLast, obuTurn, packetizeTurns, «packetize»}
+use Rattle.crate_laws.specs.Packetizer.{CratePacket, newPacket, «additional_bytes_for_previous_obu_element», startsNew, fragmentTurns, «max_fragment_size», Packing, Opened, entered, mustWrite, requiredBytes, withFragment, Reached, middles, spreadOver, withLast, obuTurn, packetizeTurns, «packetize»}
 use Rattle.crate_laws.specs.Same.{crateSizes, SamePlans}
 use Rattle.crate_laws.proofs.Steps.{minus-is}
 use Rattle.crate_laws.proofs.Whole as whole
@@ -91,7 +90,7 @@ module _ (room i : ℕ) (isLast : Bool) (s : ℕ) (some : 1 ≤ s) (wide : 1 ≤
 -- ---- all of them
 
 -- pop of a vector with something in it
-pop-is : (ps : List PacketMetadata) → 1 ≤ length ps → pop ps ≡ ok (dropLast ps, popped ps)
+pop-is : (ps : List CratePacket) → 1 ≤ length ps → pop ps ≡ ok (dropLast ps, popped ps)
 unfolding pop popped
 pop-is [] h = absurd (omega arith)
 pop-is (p ∷ []) h = refl
@@ -153,4 +152,4 @@ plan-is obus mtu low all =
 
 pub same-plans : SamePlans
 same-plans obus mtu low all =
-    plan-is obus mtu low (λ j l. all j l .0) ∙ ap {B = Outcome (List PacketMetadata)} ok (crate-same mtu (crateSizes obus) low all)
+    plan-is obus mtu low (λ j l. all j l .0) ∙ ap {B = Outcome (List CratePacket)} ok (crate-same mtu (crateSizes obus) low all)

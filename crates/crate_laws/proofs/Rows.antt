@@ -10,13 +10,12 @@ use Rattle.obu.specs.Front.{frontOf, headed}
 use Rattle.packetizer.specs.Fragment.{largestFragment}
 use Rattle.packetizer.specs.Plan.{chargeOf, isFull, needOf, fragmentOf, spread, insert, place, planFrom, planOf}
 use Rattle.packetizer.specs.Elements.{elementsFrom}
-use Rattle.packetizer.specs.declared.PacketMetadata.{PacketMetadata}
 use Rattle.aggregation.specs.Header.{nOf, byteOf}
 use Rattle.payloader.specs.Payload as ours
 use Rattle.crate_laws.specs.Rust.{Outcome, ok, err, panic, _>>=_, ErrPayloadTooSmallForObuExtensionHeader, ErrPayloadTooSmallForObuPayloadSize, at, pop, slice, minus}
 use Rattle.crate_laws.specs.Leb128.{encodeTurns, decodeTurns, readFrom, sizeTurns, putTurns}
 use Rattle.crate_laws.specs.Obu.{CrateObu, «parse_obus», extensionHeader, sizedPayload, obuPayload, obuAt, parseFrom}
-use Rattle.crate_laws.specs.Packetizer.{«additional_bytes_for_previous_obu_element», fragmentTurns, «max_fragment_size», opened, withFragment, middles, withLast, obuTurn, packetizeTurns, «packetize», setsN, «get_aggregation_header»}
+use Rattle.crate_laws.specs.Packetizer.{CratePacket, «additional_bytes_for_previous_obu_element», fragmentTurns, «max_fragment_size», opened, withFragment, middles, withLast, obuTurn, packetizeTurns, «packetize», setsN, «get_aggregation_header»}
 use Rattle.crate_laws.specs.Payload.{payloadOffset, elementOf, storeFrom, lastFrom, packetBytes, packetsFrom, payload}
 use Rattle.crate_laws.specs.Parted.{outgrown, Outgrows}
 
@@ -24,7 +23,7 @@ use Rattle.crate_laws.specs.Parted.{outgrown, Outgrows}
 obuNumbers : CrateObu → List ℕ
 obuNumbers o = o .header ∷ o .«extension_header» ∷ o .size ∷ o .payload
 
-packetNumbers : PacketMetadata → List ℕ
+packetNumbers : CratePacket → List ℕ
 packetNumbers p =
     p .«first_obu_index» ∷ p .«num_obu_elements» ∷ p .«first_obu_offset» ∷ p .«last_obu_size» ∷ p .«packet_size» ∷ []
 

@@ -31,16 +31,16 @@ use Rattle.packetizer.specs.Laws.{Sound}
 use Rattle.packetizer.specs.Records.{planNumbers, noPacket}
 use Rattle.packetizer.proofs.Calls.{unit-small, given-kept}
 use Rattle.aggregation.specs.Header.{nOf, byteOf, headerOf}
-use Rattle.aggregation.proofs.Headers.{header-given}
+use Rattle.aggregation.proofs.Headers.{alike}
 use Rattle.payloader.specs.Payload as ours
 use Rattle.payloader.specs.Call as call
 use Rattle.payloader.specs.declared.Payloads.{Payloads}
-use Rattle.payloader.proofs.Packets.{packet-sound}
+use Rattle.payloader.proofs.Packets.{packet-sound, packet-header}
 use Rattle.crate_laws.specs.Rust.{Outcome, ok}
-use Rattle.crate_laws.specs.Packetizer.{«packetize»}
+use Rattle.crate_laws.specs.Packetizer.{CratePacket, «packetize»}
 use Rattle.crate_laws.specs.Payload.{packetBytes, packetsFrom, payload}
 use Rattle.crate_laws.specs.Pieces.{writtenBy, crateWriter, zywOf, packetPieces, piecesFrom, piecesOf}
-use Rattle.crate_laws.specs.Same.{Allowed, asCrate, crateObus, crateSizes, In32Bits, SameHeader, SameUnits, EqualPayloads, SentAllowed, ListedSame, PlannedSame, SentSame}
+use Rattle.crate_laws.specs.Same.{Allowed, asCrate, crateObus, asCratePacket, cratePackets, crateSizes, In32Bits, SameHeader, SameUnits, EqualPayloads, SentAllowed, ListedSame, PlannedSame, SentSame}
 use Rattle.crate_laws.proofs.Lists.{parse-same}
 use Rattle.crate_laws.proofs.Plans.{same-plans}
 use Rattle.crate_laws.proofs.Headers.{header-same}
@@ -56,11 +56,11 @@ sizes-same unit (o ∷ obus) = ap {B = List ℕ} (λ l. o .size ∷ l) (sizes-sa
 module _ (unit : List ℕ) (obus : List Obu) (packets : List PacketMetadata)
     (each :
     (k : ℕ) → k < length packets
-    → packetBytes (map (asCrate unit) obus) packets k
+    → packetBytes (map (asCrate unit) obus) (cratePackets packets) k
     ≡ ok (writtenBy (crateWriter (map (asCrate unit) obus)) (packetPieces unit obus k (getD packets k noPacket))))
   where
     packets-from : (left k : ℕ) → left + k ≡ length packets
-        → packetsFrom left (map (asCrate unit) obus) packets k
+        → packetsFrom left (map (asCrate unit) obus) (cratePackets packets) k
         ≡ ok (map (writtenBy (crateWriter (map (asCrate unit) obus))) (piecesFrom unit obus k (drop k packets)))
     unfolding packetsFrom piecesFrom
     packets-from zero k e = let h : length packets ≤ k = omega arith in rw (drop-of-length-le packets h)
@@ -77,10 +77,10 @@ module _ (mtu : ℕ) (unit : List ℕ) (bytes : Bytes unit) (a : Allowed mtu uni
   in-32-bits : In32Bits (crateSizes (crateObus unit))
   in-32-bits = rw (sizes-same unit os) (λ j l. let s = unit-small unit (a .short) j l in omega arith)
 
-  plan-same : «packetize» (crateObus unit) mtu ≡ ok plan
+  plan-same : «packetize» (crateObus unit) mtu ≡ ok (cratePackets plan)
   plan-same =
       same-plans (crateObus unit) mtu (omega (arith, a .low)) in-32-bits
-      ∙ ap {B = Outcome (List PacketMetadata)} (λ (l : List ℕ). ok (planOf mtu l)) (sizes-same unit os)
+      ∙ ap {B = Outcome (List CratePacket)} (λ (l : List ℕ). ok (cratePackets (planOf mtu l))) (sizes-same unit os)
 
   sound : (k : ℕ) → k < length plan → Sound (mtu - 1) (sizesOf unit) (getD plan k noPacket)
   sound k h = packet-sound mtu unit k (a .short) h
@@ -88,7 +88,7 @@ module _ (mtu : ℕ) (unit : List ℕ) (bytes : Bytes unit) (a : Allowed mtu uni
   payload-is : payload mtu unit ≡ ok (map (writtenBy (crateWriter (crateObus unit))) (piecesOf mtu unit))
   unfolding payload
   payload-is =
-      rw (parse-same unit bytes (a .whole), plan-same)
+      rw (parse-same unit bytes (a .whole), plan-same, length-map plan asCratePacket)
       (packets-from unit os plan (λ k h. packet-is unit os (λ i l. obu-lies unit i bytes l) (mtu - 1) plan k h (sound k h)) (length plan) 0 (omega arith))
 
   our-header : (k : ℕ) → headerOf os plan k ≡ given (byteOf os (getD plan k noPacket) k)
@@ -101,7 +101,7 @@ module _ (mtu : ℕ) (unit : List ℕ) (bytes : Bytes unit) (a : Allowed mtu uni
       let s = sound k h in
       let inside : getD plan k noPacket .«first_obu_index» + getD plan k noPacket .«num_obu_elements» ≤ length os =
       omega (arith, s .inside, length-map os (λ (o : Obu). o .size)) in
-      record { theirs = header-same unit os plan k h (s .some) inside; ours = our-header k (header-given os plan k h (s .some) inside) }
+      record { theirs = header-same unit os plan k h (s .some) inside; ours = our-header k (sym (alike os plan k) ∙ packet-header mtu unit k (a .short) h) }
 
 pub same-units : SameUnits
 same-units mtu unit bytes a =

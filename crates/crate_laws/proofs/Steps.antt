@@ -2,7 +2,7 @@
 use mathlib.Core.Path.{_≡_, refl, ap, _∙_}
 use Prim.Native.Nat.{ℕ, zero, suc, _+_, _-_, _/_, _≤_, _<_}
 use native.Mathlib.Omega.{arith}
-use mathlib.Core.List.{List, [], _∷_}
+use mathlib.Core.List.{List, [], _∷_, map}
 use mathlib.Core.Bool.{Bool, true, false, cond}
 use lib.ListN.{length, getD, take, drop}
 use lib.Dec.{eqb}
@@ -20,6 +20,12 @@ module _ {A : Type 0} where
   at-is d [] i h = absurd (omega arith)
   at-is d (a ∷ l) zero h = refl
   at-is d (a ∷ l) (suc i) h = at-is d l i (omega arith)
+
+  pub at-map : {B : Type 0} (f : A → B) (d : A) (l : List A) (i : ℕ) → i < length l → at (map f l) i ≡ ok (f (getD l i d))
+  unfolding at
+  at-map f d [] i h = absurd (omega arith)
+  at-map f d (a ∷ l) zero h = refl
+  at-map f d (a ∷ l) (suc i) h = at-map f d l i (omega arith)
 
   -- n elements from an index on
   pub slice-is : (l : List A) (from n : ℕ) → from + n ≤ length l → slice l from (from + n) ≡ ok (take n (drop from l))

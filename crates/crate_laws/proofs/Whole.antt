@@ -5,13 +5,12 @@ use mathlib.Core.List.{List, [], _∷_, dropLast}
 use mathlib.Core.Bool.{Bool, cond}
 use lib.ListN.{length}
 use lib.Dec.{ltb, leb, eqb}
-use Rattle.packetizer.specs.declared.PacketMetadata.{PacketMetadata}
 use Rattle.crate_laws.specs.Rust.{push}
 use Rattle.crate_laws.specs.Packetizer as crate
-use Rattle.crate_laws.specs.Packetizer.{packet, newPacket, sizeAsU32, Packing, Opened, entered, mustWrite, requiredBytes, unfragmented, Reached, splitsLast, spreadOver}
+use Rattle.crate_laws.specs.Packetizer.{CratePacket, packet, newPacket, sizeAsU32, Packing, Opened, entered, mustWrite, requiredBytes, unfragmented, Reached, splitsLast, spreadOver}
 
 -- what Vec::pop takes off; the rest is dropLast
-unfoldable pub popped : List PacketMetadata → PacketMetadata
+unfoldable pub popped : List CratePacket → CratePacket
 popped [] = newPacket 0
 popped (p ∷ []) = p
 popped (p ∷ q ∷ ps) = popped (q ∷ ps)
@@ -29,10 +28,10 @@ abbrev pub opened : ℕ → ℕ → Packing → Opened
 opened room i v = crate.opened room i (dropLast (v .packets)) (popped (v .packets)) (v .remaining)
 
 -- first_fragment_size; and the packet with the fragment, or with the OBU uninserted
-unfoldable pub firstFragment : PacketMetadata → ℕ → ℕ → ℕ
+unfoldable pub firstFragment : CratePacket → ℕ → ℕ → ℕ
 firstFragment p remaining s = min (s - 1) (cond (mustWrite p) (maxFragmentSize remaining) remaining)
 
-unfoldable pub fragmented : PacketMetadata → ℕ → ℕ → PacketMetadata
+unfoldable pub fragmented : CratePacket → ℕ → ℕ → CratePacket
 fragmented p extra f =
     cond (eqb f 0)
     (packet (p .«first_obu_index») (p .«num_obu_elements» - 1) (p .«first_obu_offset») (p .«last_obu_size») (p .«packet_size» - extra))
@@ -42,7 +41,7 @@ fragmented p extra f =
 abbrev pub semiLast : ℕ → ℕ
 semiLast lastSize = cond (leb lastSize (lastSize / 2)) (lastSize - 1) (lastSize / 2)
 
-abbrev pub lastPushed : ℕ → ℕ → List PacketMetadata → ℕ → ℕ → Packing
+abbrev pub lastPushed : ℕ → ℕ → List CratePacket → ℕ → ℕ → Packing
 lastPushed room i packets offset lastSize =
     record { packets = push packets (packet i 1 offset lastSize lastSize); remaining = room - lastSize }
 
@@ -58,7 +57,7 @@ abbrev pub finished : ℕ → ℕ → Bool → ℕ → Reached → Packing
 finished room i isLast s v = lastFragment room i isLast (s - v .offset) v
 
 -- one OBU
-abbrev pub inserted : ℕ → ℕ → Bool → ℕ → Opened → PacketMetadata → ℕ → Packing
+abbrev pub inserted : ℕ → ℕ → Bool → ℕ → Opened → CratePacket → ℕ → Packing
 inserted room i isLast s v p remaining =
     cond (ltb (requiredBytes p s) remaining)
     (record { packets = push (v .packets) (unfragmented p s); remaining = remaining - requiredBytes p s })
@@ -69,12 +68,12 @@ unfoldable pub step : ℕ → ℕ → Bool → ℕ → Opened → Packing
 step room i isLast s v = inserted room i isLast s v (entered v) (v .remaining - v .extra)
 
 -- the loop over the OBUs by their sizes, of which there are so many
-unfoldable pub packetizeFrom : ℕ → ℕ → ℕ → List ℕ → Packing → List PacketMetadata
+unfoldable pub packetizeFrom : ℕ → ℕ → ℕ → List ℕ → Packing → List CratePacket
 packetizeFrom room count i [] v = v .packets
 packetizeFrom room count i (s ∷ ss) v =
     packetizeFrom room count (i + 1) ss (step room i (eqb i (count - 1)) s (opened room i v))
 
-unfoldable pub packetize : ℕ → List ℕ → List PacketMetadata
+unfoldable pub packetize : ℕ → List ℕ → List CratePacket
 packetize mtu sizes =
     cond (eqb (length sizes) 0)
     []

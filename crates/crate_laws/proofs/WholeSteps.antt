@@ -11,27 +11,27 @@ use Rattle.base.proofs.Tests.{by-cond, split-on}
 use Rattle.leb128.specs.Field.{largestValue}
 use Rattle.leb128.specs.Laws.{cap}
 use Rattle.packetizer.specs.Fragment.{fieldSize, largestFragment, Largest}
-use Rattle.packetizer.specs.Plan.{chargeOf, alone, Placing, filling, closing, spread}
+use Rattle.packetizer.specs.Plan.{chargeOf, alone, startAfter, Placing, filling, closing, spread}
 use Rattle.packetizer.specs.declared.PacketMetadata.{PacketMetadata}
 use Rattle.packetizer.proofs.Fragments.{largest-is, largest-one, largest-none, Shifting, shifting-next, shifting-end}
 use Rattle.crate_laws.specs.Rust.{push}
-use Rattle.crate_laws.specs.Packetizer.{packet, sizeAsU32, «additional_bytes_for_previous_obu_element», Reached, middles, spreadOver}
-use Rattle.crate_laws.specs.Same.{NeverSplits}
+use Rattle.crate_laws.specs.Packetizer.{CratePacket, sizeAsU32, «additional_bytes_for_previous_obu_element», Reached, middles, spreadOver}
+use Rattle.crate_laws.specs.Same.{asCratePacket, cratePackets, NeverSplits}
 use Rattle.crate_laws.proofs.Lengths.{size-is}
 use Rattle.crate_laws.proofs.Whole.{popped, fragmentFrom, maxFragmentSize, lastFragment, finished}
 
 -- ---- the vector
 
-pub popped-push : (ps : List PacketMetadata) (p : PacketMetadata) → popped (push ps p) ≡ p
+pub popped-push : (ps : List CratePacket) (p : CratePacket) → popped (push ps p) ≡ p
 unfolding popped
 popped-push [] p = refl
 popped-push (q ∷ []) p = refl
 popped-push (q ∷ r ∷ ps) p = popped-push (r ∷ ps) p
 
-pub dropped-push : (ps : List PacketMetadata) (p : PacketMetadata) → dropLast (push ps p) ≡ ps
+pub dropped-push : (ps : List CratePacket) (p : CratePacket) → dropLast (push ps p) ≡ ps
 dropped-push [] p = refl
 dropped-push (q ∷ []) p = refl
-dropped-push (q ∷ r ∷ ps) p = ap (λ (l : List PacketMetadata). q ∷ l) (dropped-push (r ∷ ps) p)
+dropped-push (q ∷ r ∷ ps) p = ap (λ (l : List CratePacket). q ∷ l) (dropped-push (r ∷ ps) p)
 
 -- ---- sizes
 
@@ -73,7 +73,7 @@ pub record Held (p : PacketMetadata) : Type 0 where
   pub new : p .«num_obu_elements» ≡ 0 → p .«packet_size» ≡ 0
   pub last : p .«last_obu_size» ≤ largestValue
 
-pub charge-same : (p : PacketMetadata) → Held p → «additional_bytes_for_previous_obu_element» p ≡ chargeOf p
+pub charge-same : (p : PacketMetadata) → Held p → «additional_bytes_for_previous_obu_element» (asCratePacket p) ≡ chargeOf p
 unfolding «additional_bytes_for_previous_obu_element» chargeOf
 charge-same p h =
     let e : eqb (p .«packet_size») 0 ≡ eqb (p .«num_obu_elements») 0 = same in
@@ -89,12 +89,12 @@ charge-same p h =
 
 -- ---- middle and last fragments
 
-abbrev reached : List PacketMetadata → ℕ → Reached
+abbrev reached : List CratePacket → ℕ → Reached
 reached ps o = record { packets = ps; offset = o }
 
 -- where the last fragment starts, and its packet
-abbrev lastFrom : ℕ → ℕ → ℕ → ℕ → ℕ → ℕ
-lastFrom most room i s o = spread most room i s o .current .«first_obu_offset»
+abbrev lastFrom : ℕ → ℕ → ℕ → ℕ → ℕ → ℕ → ℕ
+lastFrom most room i s o start = spread most room i s o start .current .«first_obu_offset»
 
 tests-same : (room s o : ℕ) → ltb (o + room) s ≡ ltb room (s - o)
 tests-same room s o =
@@ -102,46 +102,60 @@ tests-same room s o =
     (λ t. let l : room < s - o = ltb-true room (s - o) t in lt-ltb (o + room) s (omega arith) ∙ sym t)
     (λ t. let l : s - o ≤ room = ltb-false room (s - o) t in le-ltb (o + room) s (omega arith) ∙ sym t)
 
-middles-same : (most room i s o : ℕ) (ps : List PacketMetadata)
-    → middles most room i s (reached ps o) ≡ reached (ps ++ spread most room i s o .closed) (lastFrom most room i s o)
+middles-same : (most room i s o start : ℕ) (ps : List CratePacket)
+    → middles most room i s (reached ps o) ≡ reached (ps ++ cratePackets (spread most room i s o start .closed)) (lastFrom most room i s o start)
 unfolding middles spread
-middles-same zero room i s o ps = rw (append-nil ps)
-middles-same (suc most) room i s o ps =
-    rw (tests-same room s o) (go (ltb room (s - o)) (middles-same most room i s (o + room) (push ps (packet i 1 o room room))))
+middles-same zero room i s o start ps = rw (append-nil ps)
+middles-same (suc most) room i s o start ps =
+    rw (tests-same room s o) (go (ltb room (s - o)) (middles-same most room i s (o + room) (startAfter full) (push ps (asCratePacket full))))
   where
-    go : (t : Bool)
-        → middles most room i s (reached (push ps (packet i 1 o room room)) (o + room))
-        ≡ reached (push ps (packet i 1 o room room) ++ spread most room i s (o + room) .closed) (lastFrom most room i s (o + room))
-        → cond t (middles most room i s (reached (push ps (packet i 1 o room room)) (o + room))) (reached ps o)
-        ≡ reached (ps ++ cond t (closing (alone i o room) (spread most room i s (o + room))) (filling (alone i o (s - o))) .closed)
-        (cond t (closing (alone i o room) (spread most room i s (o + room))) (filling (alone i o (s - o))) .current .«first_obu_offset»)
-    go true ih = ih ∙ ap (λ (l : List PacketMetadata). reached l (lastFrom most room i s (o + room))) (append-assoc ps (packet i 1 o room room ∷ []) (spread most room i s (o + room) .closed))
-    go false ih = ap (λ (l : List PacketMetadata). reached l o) (sym (append-nil ps))
+    full : PacketMetadata
+    full = alone i o room start
 
-last-alone : (most room i s o : ℕ) → spread most room i s o .current ≡ alone i (lastFrom most room i s o) (s - lastFrom most room i s o)
+    next : Placing
+    next = spread most room i s (o + room) (startAfter full)
+
+    go : (t : Bool)
+        → middles most room i s (reached (push ps (asCratePacket full)) (o + room))
+        ≡ reached (push ps (asCratePacket full) ++ cratePackets (next .closed)) (next .current .«first_obu_offset»)
+        → cond t (middles most room i s (reached (push ps (asCratePacket full)) (o + room))) (reached ps o)
+        ≡ reached (ps ++ cratePackets (cond t (closing full next) (filling (alone i o (s - o) start)) .closed))
+        (cond t (closing full next) (filling (alone i o (s - o) start)) .current .«first_obu_offset»)
+    go true ih = ih ∙ ap (λ (l : List CratePacket). reached l (next .current .«first_obu_offset»)) (append-assoc ps (asCratePacket full ∷ []) (cratePackets (next .closed)))
+    go false ih = ap (λ (l : List CratePacket). reached l o) (sym (append-nil ps))
+
+-- it stands alone in its packet
+abbrev Last : ℕ → ℕ → PacketMetadata → Type 0
+Last i s p = p ≡ alone i (p .«first_obu_offset») (s - p .«first_obu_offset») (p .«payload_start»)
+
+last-alone : (most room i s o start : ℕ) → Last i s (spread most room i s o start .current)
 unfolding spread
-last-alone zero room i s o = refl
-last-alone (suc most) room i s o =
-    by-cond (λ (x : Placing). x .current ≡ alone i (x .current .«first_obu_offset») (s - x .current .«first_obu_offset»)) (ltb room (s - o)) _ _
-    (λ t. last-alone most room i s (o + room))
+last-alone zero room i s o start = refl
+last-alone (suc most) room i s o start =
+    by-cond (λ (x : Placing). Last i s (x .current)) (ltb room (s - o)) _ _
+    (λ t. last-alone most room i s (o + room) _)
     (λ t. refl)
 
-last-fits : (most room i s o : ℕ) → 1 ≤ room → s ≤ o + most → s - lastFrom most room i s o ≤ room
+last-fits : (most room i s o start : ℕ) → 1 ≤ room → s ≤ o + most → s - lastFrom most room i s o start ≤ room
 unfolding spread
-last-fits zero room i s o r h = omega arith
-last-fits (suc most) room i s o r h =
+last-fits zero room i s o start r h = omega arith
+last-fits (suc most) room i s o start r h =
     by-cond (λ (x : Placing). s - x .current .«first_obu_offset» ≤ room) (ltb room (s - o)) _ _
-    (λ t. let l : room < s - o = ltb-true room (s - o) t in last-fits most room i s (o + room) r (omega arith))
+    (λ t. let l : room < s - o = ltb-true room (s - o) t in last-fits most room i s (o + room) _ r (omega arith))
     (λ t. ltb-false room (s - o) t)
 
 -- the test of the crate's last branch is false, whatever fragment came first
 pub never-splits : NeverSplits
 never-splits isLast room i s f ps r =
-    rw (middles-same s room i s f ps, le-ltb room (s - lastFrom s room i s f) (last-fits s room i s f r (omega arith))) (and-false isLast)
+    rw (middles-same s room i s f 0 ps, le-ltb room (s - lastFrom s room i s f 0) (last-fits s room i s f 0 r (omega arith))) (and-false isLast)
 
-pub spread-same : (isLast : Bool) (room i s f : ℕ) (ps : List PacketMetadata) → 1 ≤ room
+pub spread-same : (isLast : Bool) (room i s f start : ℕ) (ps : List CratePacket) → 1 ≤ room
     → finished room i isLast s (spreadOver room i s ps f)
-    ≡ record { packets = ps ++ spread s room i s f .closed ++ (spread s room i s f .current ∷ []); remaining = room - spread s room i s f .current .«packet_size» }
+    ≡ record {
+      packets =
+          ps ++ cratePackets (spread s room i s f start .closed) ++ (asCratePacket (spread s room i s f start .current) ∷ []);
+      remaining = room - spread s room i s f start .current .«packet_size»;
+    }
 unfolding lastFragment
-spread-same isLast room i s f ps r =
-    rw (never-splits isLast room i s f ps r, middles-same s room i s f ps, last-alone s room i s f)
+spread-same isLast room i s f start ps r =
+    rw (never-splits isLast room i s f ps r, middles-same s room i s f start ps, last-alone s room i s f start)

@@ -1,11 +1,10 @@
--- packetizer.rs: the plan, and the aggregation header. A packet is a record of the port, which has the crate's fields.
+-- packetizer.rs: the plan, and the aggregation header.
 use Prim.Native.Nat.{ℕ, zero, suc, _+_, _*_, _/_, _^_, min}
 use mathlib.Core.List.{List, [], _∷_}
 use mathlib.Core.Bool.{Bool, false, cond, _&&_, _||_}
 use lib.ListN.{length}
 use lib.Dec.{ltb, leb, eqb}
 use lib.Bits.{bitOr}
-use Rattle.packetizer.specs.declared.PacketMetadata.{PacketMetadata}
 use Rattle.crate_laws.specs.Rust.{Outcome, ok, panic, _>>=_, at, push, pop, minus, asU8, asU32, shlU8}
 use Rattle.crate_laws.specs.Leb128.{«leb128_size»}
 use Rattle.crate_laws.specs.Obu.{CrateObu, «OBU_TYPE_SEQUENCE_HEADER», «obu_type»}
@@ -16,7 +15,15 @@ abbrev pub «MAX_NUM_OBUS_TO_OMIT_SIZE» : ℕ
 abbrev pub «AGGREGATION_HEADER_SIZE» : ℕ
 «AGGREGATION_HEADER_SIZE» = 1
 
-abbrev pub packet : ℕ → ℕ → ℕ → ℕ → ℕ → PacketMetadata
+-- the crate's `PacketMetadata`
+pub record CratePacket : Type 0 where
+  pub «first_obu_index» : ℕ
+  pub «num_obu_elements» : ℕ
+  pub «first_obu_offset» : ℕ
+  pub «last_obu_size» : ℕ
+  pub «packet_size» : ℕ
+
+abbrev pub packet : ℕ → ℕ → ℕ → ℕ → ℕ → CratePacket
 packet first count offset last size =
     record {
       «first_obu_index» = first;
@@ -27,14 +34,14 @@ packet first count offset last size =
     }
 
 -- PacketMetadata::new
-abbrev pub newPacket : ℕ → PacketMetadata
+abbrev pub newPacket : ℕ → CratePacket
 newPacket first = packet first 0 0 0 0
 
 -- leb128_size(n as u32)
 abbrev pub sizeAsU32 : ℕ → ℕ
 sizeAsU32 n = «leb128_size» (asU32 n)
 
-unfoldable pub «additional_bytes_for_previous_obu_element» : PacketMetadata → ℕ
+unfoldable pub «additional_bytes_for_previous_obu_element» : CratePacket → ℕ
 «additional_bytes_for_previous_obu_element» p =
     cond (eqb (p .«packet_size») 0 || ltb «MAX_NUM_OBUS_TO_OMIT_SIZE» (p .«num_obu_elements»))
     0
@@ -53,23 +60,23 @@ unfoldable pub «max_fragment_size» : ℕ → Outcome ℕ
 
 -- between two OBUs: packets, packet_remaining_bytes
 pub record Packing : Type 0 where
-  pub packets : List PacketMetadata
+  pub packets : List CratePacket
   pub remaining : ℕ
 
 -- with the last packet taken off, or a new one in its place: previous_obu_extra_size too
 pub record Opened : Type 0 where
-  pub packets : List PacketMetadata
-  pub last : PacketMetadata
+  pub packets : List CratePacket
+  pub last : CratePacket
   pub remaining : ℕ
   pub extra : ℕ
 
 -- the packet taken off has no space; min_required_size is 2 or 1
-abbrev pub startsNew : ℕ → PacketMetadata → Bool
+abbrev pub startsNew : ℕ → CratePacket → Bool
 startsNew remaining p =
     ltb remaining
     («additional_bytes_for_previous_obu_element» p + cond (leb «MAX_NUM_OBUS_TO_OMIT_SIZE» (p .«num_obu_elements»)) 2 1)
 
-unfoldable pub opened : ℕ → ℕ → List PacketMetadata → PacketMetadata → ℕ → Opened
+unfoldable pub opened : ℕ → ℕ → List CratePacket → CratePacket → ℕ → Opened
 opened room i packets p remaining =
     cond (startsNew remaining p)
     (record { packets = push packets p; last = newPacket i; remaining = room; extra = 0 })
@@ -81,25 +88,25 @@ opened room i packets p remaining =
     })
 
 -- the extra size charged, and the element counted
-abbrev pub entered : Opened → PacketMetadata
+abbrev pub entered : Opened → CratePacket
 entered v =
     packet (v .last .«first_obu_index») (v .last .«num_obu_elements» + 1) (v .last .«first_obu_offset») (v .last .«last_obu_size»)
     (v .last .«packet_size» + v .extra)
 
 -- must_write_obu_element_size, required_bytes
-abbrev pub mustWrite : PacketMetadata → Bool
+abbrev pub mustWrite : CratePacket → Bool
 mustWrite p = ltb «MAX_NUM_OBUS_TO_OMIT_SIZE» (p .«num_obu_elements»)
 
-abbrev pub requiredBytes : PacketMetadata → ℕ → ℕ
+abbrev pub requiredBytes : CratePacket → ℕ → ℕ
 requiredBytes p s = s + cond (mustWrite p) (sizeAsU32 s) 0
 
 -- the OBU goes in unfragmented
-abbrev pub unfragmented : PacketMetadata → ℕ → PacketMetadata
+abbrev pub unfragmented : CratePacket → ℕ → CratePacket
 unfragmented p s =
     packet (p .«first_obu_index») (p .«num_obu_elements») (p .«first_obu_offset») s (p .«packet_size» + requiredBytes p s)
 
 -- the packet with the first fragment, or with the OBU uninserted
-unfoldable pub withFragment : PacketMetadata → ℕ → ℕ → Outcome PacketMetadata
+unfoldable pub withFragment : CratePacket → ℕ → ℕ → Outcome CratePacket
 withFragment p extra first =
     cond (eqb first 0)
     (do
@@ -110,7 +117,7 @@ withFragment p extra first =
 
 -- inside an OBU: packets, obu_offset
 pub record Reached : Type 0 where
-  pub packets : List PacketMetadata
+  pub packets : List CratePacket
   pub offset : ℕ
 
 -- the loop of middle fragments
@@ -122,7 +129,7 @@ middles (suc turns) room i s v =
     v
 
 -- each turn takes a byte at least of the OBU
-abbrev pub spreadOver : ℕ → ℕ → ℕ → List PacketMetadata → ℕ → Reached
+abbrev pub spreadOver : ℕ → ℕ → ℕ → List CratePacket → ℕ → Reached
 spreadOver room i s packets first = middles s room i s (record { packets = packets; offset = first })
 
 -- the last fragment, split in two or not
@@ -159,7 +166,7 @@ obuTurn room i isLast s v = do
         withLast room i isLast reached size)
 
 -- the loop over the OBUs, of which there are so many
-unfoldable pub packetizeTurns : ℕ → ℕ → ℕ → List CrateObu → Packing → Outcome (List PacketMetadata)
+unfoldable pub packetizeTurns : ℕ → ℕ → ℕ → List CrateObu → Packing → Outcome (List CratePacket)
 packetizeTurns room count i [] v = ok (v .packets)
 packetizeTurns room count i (obu ∷ obus) v = do
   last ← minus count 1
@@ -167,7 +174,7 @@ packetizeTurns room count i (obu ∷ obus) v = do
   next ← obuTurn room i (eqb i last) (obu .size) (opened room i packets p (v .remaining))
   packetizeTurns room count (i + 1) obus next
 
-unfoldable pub «packetize» : List CrateObu → ℕ → Outcome (List PacketMetadata)
+unfoldable pub «packetize» : List CrateObu → ℕ → Outcome (List CratePacket)
 «packetize» obus mtu =
     cond (eqb (length obus) 0)
     (ok [])
@@ -180,18 +187,18 @@ unfoldable pub «packetize» : List CrateObu → ℕ → Outcome (List PacketMet
 -- ---- get_aggregation_header
 
 -- last_obu_offset
-abbrev pub lastObuOffset : PacketMetadata → ℕ
+abbrev pub lastObuOffset : CratePacket → ℕ
 lastObuOffset packet = cond (eqb (packet .«num_obu_elements») 1) (packet .«first_obu_offset») 0
 
 -- the header as each `if` leaves it: Z, Y with the size of the last OBU, W, N
-abbrev pub withZ : PacketMetadata → ℕ → ℕ
+abbrev pub withZ : CratePacket → ℕ → ℕ
 withZ packet header = cond (ltb 0 (packet .«first_obu_offset»)) (bitOr header (shlU8 1 7)) header
 
-abbrev pub withY : PacketMetadata → ℕ → ℕ → ℕ
+abbrev pub withY : CratePacket → ℕ → ℕ → ℕ
 withY packet size header =
     cond (ltb (lastObuOffset packet + packet .«last_obu_size») size) (bitOr header (shlU8 1 6)) header
 
-abbrev pub withW : PacketMetadata → ℕ → ℕ
+abbrev pub withW : CratePacket → ℕ → ℕ
 withW packet header =
     cond (leb (packet .«num_obu_elements») «MAX_NUM_OBUS_TO_OMIT_SIZE»)
     (bitOr header (shlU8 (asU8 (packet .«num_obu_elements»)) 4))
@@ -205,7 +212,7 @@ setsN (first ∷ obus) k = eqb k 0 && eqb («obu_type» (first .header)) «OBU_T
 abbrev pub withN : List CrateObu → ℕ → ℕ → ℕ
 withN obus k header = cond (setsN obus k) (bitOr header (shlU8 1 3)) header
 
-unfoldable pub «get_aggregation_header» : List CrateObu → List PacketMetadata → ℕ → Outcome ℕ
+unfoldable pub «get_aggregation_header» : List CrateObu → List CratePacket → ℕ → Outcome ℕ
 «get_aggregation_header» obus packets k = do
   packet ← at packets k
   last ← minus (packet .«first_obu_index» + packet .«num_obu_elements») 1

@@ -5,11 +5,10 @@ use mathlib.Core.Bool.{Bool, cond, _&&_}
 use lib.ListN.{length}
 use lib.Dec.{ltb, leb, eqb}
 use lib.Bits.{bitAnd}
-use Rattle.packetizer.specs.declared.PacketMetadata.{PacketMetadata}
 use Rattle.crate_laws.specs.Rust.{Outcome, ok, _>>=_, at, slice, minus, asU32}
 use Rattle.crate_laws.specs.Leb128.{«put_leb128»}
 use Rattle.crate_laws.specs.Obu.{CrateObu, «obu_has_extension», «header_size», «parse_obus»}
-use Rattle.crate_laws.specs.Packetizer.{«MAX_NUM_OBUS_TO_OMIT_SIZE», «packetize», «get_aggregation_header»}
+use Rattle.crate_laws.specs.Packetizer.{«MAX_NUM_OBUS_TO_OMIT_SIZE», CratePacket, «packetize», «get_aggregation_header»}
 
 -- out.put_leb128(n as u32)
 abbrev pub putLength : ℕ → List ℕ
@@ -72,7 +71,7 @@ lastElementOf obu offset size = lastFrom obu offset size (lessIf (takesHeader of
 
 -- ---- a packet, and all of them
 
-unfoldable pub packetBytes : List CrateObu → List PacketMetadata → ℕ → Outcome (List ℕ)
+unfoldable pub packetBytes : List CrateObu → List CratePacket → ℕ → Outcome (List ℕ)
 packetBytes obus packets k = do
   packet ← at packets k
   header ← «get_aggregation_header» obus packets k
@@ -87,7 +86,7 @@ packetBytes obus packets k = do
       ++ element))
 
 -- the loop over the packets, of which so many are left
-unfoldable pub packetsFrom : ℕ → List CrateObu → List PacketMetadata → ℕ → Outcome (List (List ℕ))
+unfoldable pub packetsFrom : ℕ → List CrateObu → List CratePacket → ℕ → Outcome (List (List ℕ))
 packetsFrom zero obus packets k = ok []
 packetsFrom (suc left) obus packets k = do
   payload ← packetBytes obus packets k

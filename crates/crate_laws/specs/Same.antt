@@ -32,7 +32,7 @@ use Rattle.payloader.specs.declared.Payloads.{Payloads}
 use Rattle.crate_laws.specs.Rust.{ok}
 use Rattle.crate_laws.specs.Leb128.{«read_leb128»}
 use Rattle.crate_laws.specs.Obu.{CrateObu, «parse_obus»}
-use Rattle.crate_laws.specs.Packetizer.{spreadOver, splitsLast, «packetize», «get_aggregation_header»}
+use Rattle.crate_laws.specs.Packetizer.{CratePacket, packet, spreadOver, splitsLast, «packetize», «get_aggregation_header»}
 use Rattle.crate_laws.specs.Payload.{payload}
 use Rattle.crate_laws.specs.Pieces.{writtenBy, crateNew, crateWriter, ourWriter, zywOf, piecesOf, ShortPieces}
 
@@ -51,12 +51,20 @@ asCrate unit o =
 abbrev pub crateObus : List ℕ → List CrateObu
 crateObus unit = map (asCrate unit) (obusOf unit)
 
+-- a packet of our plan as the crate has it: without the start of its payload
+abbrev pub asCratePacket : PacketMetadata → CratePacket
+asCratePacket p =
+    packet (p .«first_obu_index») (p .«num_obu_elements») (p .«first_obu_offset») (p .«last_obu_size») (p .«packet_size»)
+
+abbrev pub cratePackets : List PacketMetadata → List CratePacket
+cratePackets packets = map asCratePacket packets
+
 -- ---- all but N
 
 -- the header of packet k: Z, Y and W are the same, and each has its own N
 pub record SameHeader (mtu : ℕ) (unit : List ℕ) (k : ℕ) : Type 0 where
   pub theirs :
-      «get_aggregation_header» (crateObus unit) (unitPlan mtu unit) k
+      «get_aggregation_header» (crateObus unit) (cratePackets (unitPlan mtu unit)) k
       ≡ ok (zywOf (obusOf unit) (getD (unitPlan mtu unit) k noPacket) + crateNew (crateObus unit) k)
   pub ours :
       headerOf (obusOf unit) (unitPlan mtu unit) k
@@ -64,7 +72,7 @@ pub record SameHeader (mtu : ℕ) (unit : List ℕ) (k : ℕ) : Type 0 where
 
 pub record Same (mtu : ℕ) (unit : List ℕ) : Type 0 where
   pub list : «parse_obus» unit ≡ ok (crateObus unit)
-  pub plan : «packetize» (crateObus unit) mtu ≡ ok (unitPlan mtu unit)
+  pub plan : «packetize» (crateObus unit) mtu ≡ ok (cratePackets (unitPlan mtu unit))
   pub headers : (k : ℕ) → k < length (unitPlan mtu unit) → SameHeader mtu unit k
   -- the same pieces, written by the crate and by us
   pub payloads : payload mtu unit ≡ ok (map (writtenBy (crateWriter (crateObus unit))) (piecesOf mtu unit))
@@ -85,12 +93,12 @@ In32Bits sizes = (j : ℕ) → j < length sizes → (1 ≤ getD sizes j 0) × (g
 abbrev pub SamePlans : Type 0
 SamePlans =
     (obus : List CrateObu) (mtu : ℕ) → mtu ≤ largestValue → In32Bits (crateSizes obus)
-    → «packetize» obus mtu ≡ ok (planOf mtu (crateSizes obus))
+    → «packetize» obus mtu ≡ ok (cratePackets (planOf mtu (crateSizes obus)))
 
 -- the branch that splits a last fragment is never entered, whatever fragment came first (P11)
 abbrev pub NeverSplits : Type 0
 NeverSplits =
-    (isLast : Bool) (room i s first : ℕ) (packets : List PacketMetadata) → 1 ≤ room
+    (isLast : Bool) (room i s first : ℕ) (packets : List CratePacket) → 1 ≤ room
     → splitsLast isLast room (s - spreadOver room i s packets first .offset) ≡ false
 
 -- ---- N, and what follows with it
@@ -105,7 +113,7 @@ SameNew = (mtu : ℕ) (unit : List ℕ) → Bytes unit → Allowed mtu unit → 
 abbrev pub SameHeaders : Type 0
 SameHeaders =
     (mtu : ℕ) (unit : List ℕ) → Bytes unit → Allowed mtu unit → (k : ℕ) → k < length (unitPlan mtu unit)
-    → (h : ℕ) × («get_aggregation_header» (crateObus unit) (unitPlan mtu unit) k ≡ ok h) × (headerOf (obusOf unit) (unitPlan mtu unit) k ≡ given h)
+    → (h : ℕ) × («get_aggregation_header» (crateObus unit) (cratePackets (unitPlan mtu unit)) k ≡ ok h) × (headerOf (obusOf unit) (unitPlan mtu unit) k ≡ given h)
 
 abbrev pub EqualPayloads : Type 0
 EqualPayloads =

@@ -4,10 +4,9 @@ use mathlib.Core.Path.{_≡_}
 use Prim.Native.Nat.{ℕ, _+_, _≤_, _<_}
 use mathlib.Core.List.{List, []}
 use lib.ListN.{length}
-use Rattle.packetizer.specs.declared.PacketMetadata.{PacketMetadata}
 use Rattle.crate_laws.specs.Leb128.{encodeTurns, «encode_leb128», decodeTurns, «decode_leb128», sizeTurns, «leb128_size», putTurns}
 use Rattle.crate_laws.specs.Obu.{parseFrom, «parse_obus»}
-use Rattle.crate_laws.specs.Packetizer.{middles, spreadOver}
+use Rattle.crate_laws.specs.Packetizer.{CratePacket, middles, spreadOver}
 
 pub record EnoughTurns : Type 0 where
   -- on numbers of 32 bits, for decode_leb128 of 64
@@ -20,5 +19,5 @@ pub record EnoughTurns : Type 0 where
       (payload : List ℕ) (more : ℕ) → parseFrom (length payload + more) payload (length payload) 0 [] ≡ «parse_obus» payload
   -- in any room
   pub spread :
-      (more room i s : ℕ) (packets : List PacketMetadata) (first : ℕ) → 1 ≤ room
+      (more room i s : ℕ) (packets : List CratePacket) (first : ℕ) → 1 ≤ room
       → middles (s + more) room i s (record { packets = packets; offset = first }) ≡ spreadOver room i s packets first

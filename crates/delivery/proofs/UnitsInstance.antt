@@ -28,7 +28,7 @@ use Rattle.delivery.proofs.UnitsTheorem.{units-delivery}
 
 -- space for so many OBUs and packets, and so many bytes
 sending : ℕ → List ℕ → Sending
-sending mtu unit = record { mtu = mtu; unit = unit; obus = replicate 20 7; plan = replicate 25 7; output = replicate 20 7 }
+sending mtu unit = record { mtu = mtu; unit = unit; obus = replicate 20 7; plan = replicate 30 7; output = replicate 20 7 }
 
 -- U7's unit at mtu 3, one with no kept OBU, U9's at 20, U11's at 3
 pub sendings : List Sending

@@ -11,14 +11,15 @@ use Rattle.aggregation.specs.Header.{headerOf}
 abbrev pub obuOf : ℕ → ℕ → Obu
 obuOf header size = record { header = header; extension = 0; start = 0; length = 0; size = size }
 
-abbrev pub packetOf : ℕ → ℕ → ℕ → ℕ → PacketMetadata
-packetOf first elements offset last =
+abbrev pub packetOf : ℕ → ℕ → ℕ → ℕ → ℕ → PacketMetadata
+packetOf first elements offset last start =
     record {
       «first_obu_index» = first;
       «num_obu_elements» = elements;
       «first_obu_offset» = offset;
       «last_obu_size» = last;
       «packet_size» = 0;
+      «payload_start» = start;
     }
 
 abbrev pub obus : List Obu
@@ -26,7 +27,7 @@ obus = obuOf 10 4 ∷ obuOf 50 6 ∷ obuOf 50 1 ∷ obuOf 50 1 ∷ []
 
 abbrev pub packets : List PacketMetadata
 packets =
-    packetOf 0 1 0 2 ∷ packetOf 0 1 2 2 ∷ packetOf 1 1 2 2 ∷ packetOf 0 2 3 4 ∷ packetOf 0 4 0 1 ∷ packetOf 3 2 0 1 ∷ packetOf 0 0 0 1 ∷ []
+    packetOf 0 1 0 2 4294967294 ∷ packetOf 0 1 2 2 0 ∷ packetOf 1 1 2 2 0 ∷ packetOf 0 2 3 4 0 ∷ packetOf 0 4 0 1 0 ∷ packetOf 3 2 0 1 0 ∷ packetOf 0 0 0 1 0 ∷ packetOf 0 1 0 2 4294967295 ∷ []
 
 -- the same as numbers: the first header has a bit above its byte, and one more OBU is not finished
 abbrev pub obuNumbers : List ℕ
@@ -34,7 +35,7 @@ obuNumbers = 266 ∷ 0 ∷ 0 ∷ 0 ∷ 4 ∷ 50 ∷ 0 ∷ 0 ∷ 0 ∷ 6 ∷ 50 �
 
 abbrev pub packetNumbers : List ℕ
 packetNumbers =
-    0 ∷ 1 ∷ 0 ∷ 2 ∷ 0 ∷ 0 ∷ 1 ∷ 2 ∷ 2 ∷ 0 ∷ 1 ∷ 1 ∷ 2 ∷ 2 ∷ 0 ∷ 0 ∷ 2 ∷ 3 ∷ 4 ∷ 0 ∷ 0 ∷ 4 ∷ 0 ∷ 1 ∷ 0 ∷ 3 ∷ 2 ∷ 0 ∷ 1 ∷ 0 ∷ 0 ∷ 0 ∷ 0 ∷ 1 ∷ 0 ∷ []
+    0 ∷ 1 ∷ 0 ∷ 2 ∷ 0 ∷ 4294967294 ∷ 0 ∷ 1 ∷ 2 ∷ 2 ∷ 0 ∷ 0 ∷ 1 ∷ 1 ∷ 2 ∷ 2 ∷ 0 ∷ 0 ∷ 0 ∷ 2 ∷ 3 ∷ 4 ∷ 0 ∷ 0 ∷ 0 ∷ 4 ∷ 0 ∷ 1 ∷ 0 ∷ 0 ∷ 3 ∷ 2 ∷ 0 ∷ 1 ∷ 0 ∷ 0 ∷ 0 ∷ 0 ∷ 0 ∷ 1 ∷ 0 ∷ 0 ∷ 0 ∷ 1 ∷ 0 ∷ 2 ∷ 0 ∷ 4294967295 ∷ []
 
 -- the byte, or 256 plus the number of the refusal
 abbrev pub codeOf : Answer ℕ → ℕ

@@ -35,21 +35,24 @@ const OBUS: [u32; 24] = [
     0,
 ];
 
-const PLAN: [u32; 35] = [
+const PLAN: [u32; 48] = [
     0,
     1,
     0,
     2,
     0,
+    4294967294,
     0,
     1,
     2,
     2,
     0,
+    0,
     1,
     1,
     2,
     2,
+    0,
     0,
     0,
     2,
@@ -57,9 +60,11 @@ const PLAN: [u32; 35] = [
     4,
     0,
     0,
+    0,
     4,
     0,
     1,
+    0,
     0,
     3,
     2,
@@ -69,12 +74,20 @@ const PLAN: [u32; 35] = [
     0,
     0,
     0,
+    0,
     1,
     0,
+    0,
+    0,
+    1,
+    0,
+    2,
+    0,
+    4294967295,
 ];
 
 // Arrays by value, lent as slices: a function with plain parameters, so that its callers are covered.
-fn header_in(obus: [Obu; 4], packets: [PacketMetadata; 7], k: usize) -> HeaderAnswer
+fn header_in(obus: [Obu; 4], packets: [PacketMetadata; 8], k: usize) -> HeaderAnswer
     ensures { λ r. ⌜ paper r ≡ headerOf obus packets k ⌝ }
 {
     aggregation::header_of(&obus, &packets, k)
@@ -102,8 +115,8 @@ fn an_obu(header: u8, size: u32) -> Obu
     }
 }
 
-fn a_packet(first: u32, elements: u32, offset: u32, last: u32) -> PacketMetadata
-    ensures { λ r. ⌜ r ≡ packetOf first elements offset last ⌝ }
+fn a_packet(first: u32, elements: u32, offset: u32, last: u32, start: u32) -> PacketMetadata
+    ensures { λ r. ⌜ r ≡ packetOf first elements offset last start ⌝ }
 {
     PacketMetadata {
         first_obu_index: first,
@@ -111,6 +124,7 @@ fn a_packet(first: u32, elements: u32, offset: u32, last: u32) -> PacketMetadata
         first_obu_offset: offset,
         last_obu_size: last,
         packet_size: 0,
+        payload_start: start,
     }
 }
 
@@ -119,13 +133,14 @@ fn by_records(k: usize) -> u64
 {
     let obus = [an_obu(10, 4), an_obu(50, 6), an_obu(50, 1), an_obu(50, 1)];
     let packets = [
-        a_packet(0, 1, 0, 2),
-        a_packet(0, 1, 2, 2),
-        a_packet(1, 1, 2, 2),
-        a_packet(0, 2, 3, 4),
-        a_packet(0, 4, 0, 1),
-        a_packet(3, 2, 0, 1),
-        a_packet(0, 0, 0, 1),
+        a_packet(0, 1, 0, 2, 4294967294),
+        a_packet(0, 1, 2, 2, 0),
+        a_packet(1, 1, 2, 2, 0),
+        a_packet(0, 2, 3, 4, 0),
+        a_packet(0, 4, 0, 1, 0),
+        a_packet(3, 2, 0, 1, 0),
+        a_packet(0, 0, 0, 1, 0),
+        a_packet(0, 1, 0, 2, 4294967295),
     ];
     code(header_in(obus, packets, k))
 }
@@ -154,4 +169,5 @@ fn main() {
     row(5, 267);
     row(6, 267);
     row(7, 267);
+    row(8, 267);
 }

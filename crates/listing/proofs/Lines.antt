@@ -19,7 +19,7 @@ use Rattle.aggregation.proofs.Headers.{byte-back}
 use Rattle.payloader.proofs.Packets.{packet-header}
 use Rattle.payloader.proofs.Calls.{accepted}
 use Rattle.turns.specs.Orders.{asks}
-use Rattle.listing.specs.Input.{unitStore, listNumbers}
+use Rattle.listing.specs.Input.{unitStore, obuListNumbers, planListNumbers}
 use Rattle.listing.specs.Row.{rowOf}
 use Rattle.listing.specs.Listing.{rowsFrom, listedBy, unitListing, badText, refusedText, countsText}
 use Rattle.listing.specs.Steps.{unitIn, prints, counted, listingTold, furtherTold, Filled}
@@ -71,12 +71,12 @@ told-none : (p : Place) (got unit : List ℕ) → length got ≤ 0 → furtherTo
 told-none p [] unit h = refl
 told-none p (b ∷ l) unit h = absurd (omega arith)
 
-module _ (p : Place) (unit obus plan : List ℕ) (o : length obus ≡ listNumbers) (l : length plan ≡ listNumbers) where
+module _ (p : Place) (unit obus plan : List ℕ) (o : length obus ≡ obuListNumbers) (l : length plan ≡ planListNumbers) where
   listing-is : {a : Answer Planned} → a ≡ planAnswer (toPlan (p .mtu) (unitIn p unit) obus plan) → unitListing (p .mtu) (unitIn p unit) ≡ listedBy (p .mtu) (unitIn p unit) a
   unfolding unitListing
   listing-is e =
       ap (listedBy (p .mtu) (unitIn p unit))
-      (answer-same (p .mtu) (unitIn p unit) _ obus _ plan (length-replicate {A = ℕ} listNumbers 0 ∙ sym o) (length-replicate {A = ℕ} listNumbers 0 ∙ sym l) ∙ sym e)
+      (answer-same (p .mtu) (unitIn p unit) _ obus _ plan (length-replicate {A = ℕ} obuListNumbers 0 ∙ sym o) (length-replicate {A = ℕ} planListNumbers 0 ∙ sym l) ∙ sym e)
 
   -- what is told where no byte is left over
   module _ (got : List ℕ) (none : length got ≤ 0) where

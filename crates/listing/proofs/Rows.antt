@@ -28,7 +28,7 @@ case input prints = record { input = input; prints = prints }
 -- G13; a unit of no byte; another version, a cut head, a byte less, a byte more, a unit over the store; R7, R1
 cases : List Case
 cases =
-    case (1 ∷ 0 ∷ 5 ∷ 0 ∷ 0 ∷ 0 ∷ 5 ∷ 10 ∷ 1 ∷ 127 ∷ 50 ∷ 0 ∷ []) "obus 2\npackets 2\n0 0 1 0 2 2 18\n1 1 1 0 1 1 10\n"
+    case (1 ∷ 0 ∷ 5 ∷ 0 ∷ 0 ∷ 0 ∷ 5 ∷ 10 ∷ 1 ∷ 127 ∷ 50 ∷ 0 ∷ []) "obus 2\npackets 2\n0 0 1 0 2 2 18 0\n1 1 1 0 1 1 10 3\n"
     ∷ case (1 ∷ 0 ∷ 5 ∷ 0 ∷ 0 ∷ 0 ∷ 0 ∷ []) "obus 0\npackets 0\n"
     ∷ case (2 ∷ 0 ∷ 5 ∷ 0 ∷ 0 ∷ 0 ∷ 0 ∷ []) "bad input\n"
     ∷ case (1 ∷ 0 ∷ 5 ∷ 0 ∷ 0 ∷ 0 ∷ []) "bad input\n"

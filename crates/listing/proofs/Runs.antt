@@ -21,7 +21,7 @@ use Rattle.payloader.proofs.Calls.{accepted}
 use Rattle.turns.specs.Orders.{Told, ends, asks}
 use Rattle.turns.specs.Loop.{Output, nothing, also, loop}
 use Rattle.listing.specs.Input as input
-use Rattle.listing.specs.Input.{headWidth, listRecords, listNumbers, Head, states, headOf, badInput, good, inputBy, inputOf}
+use Rattle.listing.specs.Input.{headWidth, listRecords, obuListNumbers, planListNumbers, Head, states, headOf, badInput, good, inputBy, inputOf}
 use Rattle.listing.specs.Row.{rowOf, rowText}
 use Rattle.listing.specs.Listing.{Listing, bad, rowsFrom, rowsOf, listedBy, unitListing, listingBy, badText, listingText, planlistText}
 use Rattle.listing.specs.Steps.{awaits, unitIn, prints, headTold, counted, listingTold}
@@ -86,14 +86,14 @@ module _ (p : Place) (unit l : List ℕ) (count : p .packets ≡ length (unitPla
 -- ---- by what the plan call answers
 
 module _ (p : Place) (unit l : List ℕ) (n : ℕ) (enough : listRecords + 1 ≤ n) where
-  run-answer : (a : Answer Planned) → a ≡ planAnswer (toPlan (p .mtu) (unitIn p unit) (replicate listNumbers 0) (replicate listNumbers 0))
+  run-answer : (a : Answer Planned) → a ≡ planAnswer (toPlan (p .mtu) (unitIn p unit) (replicate obuListNumbers 0) (replicate planListNumbers 0))
       → run n (listingTold p (listedBy (p .mtu) (unitIn p unit) a)) unit l ≡ just (listingText (listedBy (p .mtu) (unitIn p unit) a))
   run-answer (refused k at) e = run-prints n (omega arith) p _ unit l
   run-answer (given q) e =
       let known = accepted _ _ _ _ q e in
       let count : length (rowsOf (p .mtu) (unitIn p unit)) ≡ length (unitPlan (p .mtu) (unitIn p unit)) = rows-count _ 0 _ in
       run-rows (counted p (q .obus) (length (rowsOf (p .mtu) (unitIn p unit)))) unit l count n 0 _ (omega arith)
-      (omega (arith, known .packets, known .plan-room, length-replicate {A = ℕ} listNumbers 0, count))
+      (omega (arith, known .packets, known .plan-room, length-replicate {A = ℕ} planListNumbers 0, count))
 
   run-listing : run n (listingTold p (unitListing (p .mtu) (unitIn p unit))) unit l ≡ just (listingText (unitListing (p .mtu) (unitIn p unit)))
   unfolding unitListing

@@ -5,6 +5,7 @@ use mathlib.Core.Bool.{Bool, cond, not, _||_}
 use lib.ListN.{length, getD, drop}
 use lib.Dec.{ltb, eqb}
 use Rattle.base.specs.BigEndian.{valueAt}
+use Rattle.obu.specs.Records.{obuNumbers}
 use Rattle.packetizer.specs.Records.{planNumbers}
 pub use Rattle.turns.specs.Stores.{unitStore, listRecords}
 use Rattle.listing.specs.declared.Stated.{Stated}
@@ -22,9 +23,12 @@ mtuWidth = 2
 abbrev pub lengthWidth : ℕ
 lengthWidth = 4
 
--- the numbers of a list: a record of either has five
-abbrev pub listNumbers : ℕ
-listNumbers = listRecords * planNumbers
+-- the numbers of the OBU list, and of the plan list
+abbrev pub obuListNumbers : ℕ
+obuListNumbers = listRecords * obuNumbers
+
+abbrev pub planListNumbers : ℕ
+planListNumbers = listRecords * planNumbers
 
 -- what a head states: an mtu, and how long the unit is
 pub data Head : Type 0 where

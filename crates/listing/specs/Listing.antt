@@ -10,7 +10,7 @@ use Rattle.packetizer.specs.Call.{unitPlan, toPlan, planAnswer}
 use Rattle.packetizer.specs.declared.PacketMetadata.{PacketMetadata}
 use Rattle.packetizer.specs.declared.Planned.{Planned}
 use Rattle.turns.specs.Text.{labelled}
-use Rattle.listing.specs.Input.{headWidth, listNumbers, Input, badInput, good, inputOf}
+use Rattle.listing.specs.Input.{headWidth, obuListNumbers, planListNumbers, Input, badInput, good, inputOf}
 use Rattle.listing.specs.Row.{rowBy, rowText}
 use Rattle.listing.specs.declared.Row.{Row}
 
@@ -33,7 +33,7 @@ listedBy mtu unit (refused n at) = refusedBy n at
 
 -- of a unit, with lists of L13
 unfoldable pub unitListing : ℕ → List ℕ → Listing
-unitListing mtu unit = listedBy mtu unit (planAnswer (toPlan mtu unit (replicate listNumbers 0) (replicate listNumbers 0)))
+unitListing mtu unit = listedBy mtu unit (planAnswer (toPlan mtu unit (replicate obuListNumbers 0) (replicate planListNumbers 0)))
 
 abbrev pub listingBy : List ℕ → Input → Listing
 listingBy l badInput = bad

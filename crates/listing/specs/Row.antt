@@ -9,7 +9,7 @@ use Rattle.obu.specs.declared.Obu.{Obu}
 use Rattle.packetizer.specs.Records.{noPacket}
 use Rattle.packetizer.specs.declared.PacketMetadata.{PacketMetadata}
 use Rattle.aggregation.specs.Header.{byteOf}
-use Rattle.turns.specs.Text.{decimal}
+use Rattle.turns.specs.Text.{decimal, labelled}
 use Rattle.listing.specs.declared.Row.{Row}
 
 abbrev pub rowBy : List Obu → PacketMetadata → ℕ → Row
@@ -22,6 +22,7 @@ rowBy obus p k =
       «last_size» = p .«last_obu_size»;
       «packet_size» = p .«packet_size»;
       header = byteOf obus p k;
+      start = p .«payload_start»;
     }
 
 -- the line of packet k
@@ -39,10 +40,10 @@ twoDigits b = capital (b / 16) ∷ capital (b % 16) ∷ []
 abbrev pub column : ℕ → List ℕ
 column n = decimal n ++ ascii " "
 
--- `0 0 1 0 2 2 18` and a newline: these numbers, and the header byte
+-- `0 0 1 0 2 2 18 0` and a newline: these numbers, the header byte, and where the payload starts
 abbrev pub rowNumbers : Row → List ℕ
 rowNumbers r =
     r .packet ∷ r .«first_obu» ∷ r .elements ∷ r .«first_offset» ∷ r .«last_size» ∷ r .«packet_size» ∷ []
 
 unfoldable pub rowText : Row → List ℕ
-rowText r = flatMap column (rowNumbers r) ++ (twoDigits (r .header) ++ ascii "\n")
+rowText r = flatMap column (rowNumbers r) ++ (twoDigits (r .header) ++ (labelled (ascii " ") (r .start) ++ ascii "\n"))

@@ -17,7 +17,7 @@ use Rattle.turns.specs.declared.Subject.{Subject}
 use Rattle.turns.specs.declared.Subject.the-variants as subject
 use Rattle.turns.specs.declared.Word.{Word}
 use Rattle.turns.specs.declared.Word.the-variants as word
-use Rattle.listing.specs.Input.{headWidth, unitStore, listNumbers, Head, bad, states, headOf}
+use Rattle.listing.specs.Input.{headWidth, unitStore, obuListNumbers, planListNumbers, Head, bad, states, headOf}
 use Rattle.listing.specs.Row.{rowOf, rowText}
 use Rattle.listing.specs.Listing as listing
 use Rattle.listing.specs.Listing.{Listing, refusedBy, lists, unitListing, badText, refusedText, countsText}
@@ -138,8 +138,8 @@ Ready p unit obus plan = ReadyBy (p .wait) p unit obus plan
 pub record Lent (p : Place) (c : Came) (input unit obus plan out line : List ℕ) : Type 0 where
   pub input-is : length input ≡ unitStore
   pub unit-is : length unit ≡ unitStore
-  pub obus-is : length obus ≡ listNumbers
-  pub plan-is : length plan ≡ listNumbers
+  pub obus-is : length obus ≡ obuListNumbers
+  pub plan-is : length plan ≡ planListNumbers
   pub out-is : length out ≡ lineBytes
   pub line-is : length line ≡ lineBytes
   pub came-within : CameWithin c unitStore

@@ -15,7 +15,7 @@ ghost use lib.ListN.{length};
 ghost use Rattle.base.specs.Lists.{front};
 ghost use Rattle.turns.specs.Text.{lineBytes};
 ghost use Rattle.turns.specs.Orders.{arrival, Turned};
-ghost use Rattle.listing.specs.Input.{unitStore, listNumbers, headOf};
+ghost use Rattle.listing.specs.Input.{unitStore, obuListNumbers, planListNumbers, headOf};
 ghost use Rattle.listing.specs.Listing.{badText};
 ghost use Rattle.listing.specs.Steps.{startsWith, awaits, prints, headTold, unitTold, unitAfter, furtherTold, rowTold, readOf, failed, told, unitNext, Filled, Ready, Lent, Writes};
 
@@ -24,7 +24,9 @@ const HEAD_BYTES: usize = 7;
 
 pub const UNIT_STORE: usize = turns::UNIT_STORE;
 
-pub const LIST_NUMBERS: usize = turns::LIST_RECORDS * packetizer::PLAN_NUMBERS;
+pub const OBU_LIST_NUMBERS: usize = turns::LIST_RECORDS * obu::OBU_NUMBERS;
+
+pub const PLAN_LIST_NUMBERS: usize = turns::LIST_RECORDS * packetizer::PLAN_NUMBERS;
 
 // What a head states.
 struct Stated {
@@ -46,6 +48,7 @@ struct Row {
     pub last_size: u32,
     pub packet_size: u32,
     pub header: u8,
+    pub start: u32,
 }
 
 // What a run waits for: the head, the unit, a further byte, its turn to print the line of packet k, or nothing.
@@ -169,7 +172,7 @@ fn further_step(
     plan: &mut [u32],
     out: &mut [u8],
 ) -> Turn
-    requires { ⌜ (place .length ≤ unitStore) × (length (now unit) ≡ unitStore) × (length (now obus) ≡ listNumbers) × (length (now plan) ≡ listNumbers) × (length (now out) ≡ lineBytes) ⌝ }
+    requires { ⌜ (place .length ≤ unitStore) × (length (now unit) ≡ unitStore) × (length (now obus) ≡ obuListNumbers) × (length (now plan) ≡ planListNumbers) × (length (now out) ≡ lineBytes) ⌝ }
     ensures { λ r. ⌜ Writes (furtherTold place (now (got .entry)) (now (unit .entry))) r (now (out .entry)) (now (out .exit))
         × Ready (r .place) (now (unit .entry)) (now (obus .exit)) (now (plan .exit)) ⌝ }
 {

@@ -31,6 +31,7 @@ pub fn row_at(obus: &[u32], plan: &[u32], k: usize) -> Row
         last_size: p.last_obu_size,
         packet_size: p.packet_size,
         header: header,
+        start: p.payload_start,
     }
 }
 
@@ -90,7 +91,8 @@ pub fn put_row(row: Row, out: &mut [u8]) -> usize
         row.packet_size as u64,
     ];
     let header = put_columns(&numbers, out);
-    let end = put_byte(row.header, out, header);
+    let behind = put_byte(row.header, out, header);
+    let end = turns::put_labelled(b" ", row.start as u64, out, behind);
     base::put_text(b"\n", out, end)
 }
 

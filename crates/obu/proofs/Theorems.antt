@@ -4,6 +4,7 @@
 --     sent-length   what is sent of it has its size
 --     wire-sent     what a receiver makes of that: bit 1 set, extension byte, shortest size field, payload
 --     wire-small    for all kept OBUs of a unit that is at most the unit's length plus 3 bytes
+--     sizes-small   the sizes of all kept OBUs of a unit together are at most the unit's length
 use mathlib.Core.Path.{_≡_, refl, sym, ap, ap₂, _∙_}
 use Prim.Native.Nat.{ℕ, suc, _+_, _-_, _*_, _/_, _%_, _≤_, _<_}
 use native.Mathlib.Omega.{arith}
@@ -134,14 +135,40 @@ wire-sent unit o d =
     wire-bare (cleared h) (o .extension) (payloadOf unit o) (eqb (extensionBit h) 1) q (b .0) (ap drops (b .2) ∙ d)
     ∙ ap (λ (x : ℕ). given ((x + 2) ∷ (extensionBytes h (o .extension) ++ (encode (length (payloadOf unit o)) ++ payloadOf unit o)))) (b .3)
 
--- ---- how much goes out for a unit
+-- ---- how much is sent and goes out for a unit
+
+-- so much for each OBU, together
+unfoldable pub weight : (Placed → ℕ) → List Placed → ℕ
+weight each [] = 0
+weight each (p ∷ ps) = each p + weight each ps
+
+weight-keep : (each : Placed → ℕ) (test : Placed → Bool) (ps : List Placed) → weight each (keep test ps) ≤ weight each ps
+unfolding keep weight
+weight-keep each test [] = omega arith
+weight-keep each test (p ∷ ps) =
+    by-cond (λ (qs : List Placed). weight each qs ≤ each p + weight each ps) (test p) (p ∷ keep test ps) (keep test ps)
+    (λ t. omega (arith, weight-keep each test ps))
+    (λ t. omega (arith, weight-keep each test ps))
+
+abbrev pub sizeOf : Placed → ℕ
+sizeOf p = p .obu .size
+
+abbrev Sized : List ℕ → ℕ → Scan → Type 0
+Sized l at s = weight sizeOf (s .items) ≤ length l
+
+size-next : (at : ℕ) (l : List ℕ) (x : Seen) → Spans l x → After Sized scanFrom l (obuBy at x)
+    → Sized l at (chained (obuBy at x) (λ n t. scanFrom (drop n l) t))
+unfolding weight
+size-next at l (stopped n) s r = omega arith
+size-next at l (found f) s r = omega (arith, r, s .0, length-drop (spanOf f) l)
+
+pub sizes-small : (unit : List ℕ) → weight sizeOf (keptOf unit) ≤ length unit
+unfolding weight
+sizes-small unit =
+    omega (arith, weight-keep sizeOf isKept (scanOf unit .items), stream-each obuNext ended obu-some Sized (λ t. omega arith) (λ at l h r. size-next at l (frontOf l) (front-spans l) r) unit 0)
 
 wireSize : Placed → ℕ
 wireSize p = headerSize (p .obu .header) + length (encode (p .obu .length)) + p .obu .length
-
-weight : List Placed → ℕ
-weight [] = 0
-weight (p ∷ ps) = wireSize p + weight ps
 
 -- at most so much for so many bytes, and for none nothing
 abbrev Bounded : ℕ → ℕ → Type 0
@@ -152,7 +179,7 @@ field-small v h = size-most 3 v (omega arith) (omega arith) (omega arith)
 
 -- of a scan of so many bytes
 abbrev Weighs : List ℕ → ℕ → Scan → Type 0
-Weighs l at s = length l ≤ unitLimit → Bounded (length l) (weight (s .items))
+Weighs l at s = length l ≤ unitLimit → Bounded (length l) (weight wireSize (s .items))
 
 weight-next : (at : ℕ) (l : List ℕ) (x : Seen) → Spans l x → After Weighs scanFrom l (obuBy at x)
     → Weighs l at (chained (obuBy at x) (λ n t. scanFrom (drop n l) t))
@@ -164,21 +191,13 @@ weight-next at l (found f) s r u =
     ⊎-elim
     (λ short. (omega arith, λ z. absurd (omega arith)))
     (λ last.
-    let none : weight (scanFrom (drop (spanOf f) l) (at + spanOf f) .items) ≡ 0 = k .1 (omega arith) in
+    let none : weight wireSize (scanFrom (drop (spanOf f) l) (at + spanOf f) .items) ≡ 0 = k .1 (omega arith) in
     (omega (arith, field-small (f .payload) (omega arith)), λ z. absurd (omega arith)))
     (s .1)
 
 weight-from : (l : List ℕ) (at : ℕ) → Weighs l at (scanFrom l at)
 unfolding weight
 weight-from = stream-each obuNext ended obu-some Weighs (λ t u. omega arith) (λ at l h r. weight-next at l (frontOf l) (front-spans l) r)
-
-weight-keep : (test : Placed → Bool) (ps : List Placed) → weight (keep test ps) ≤ weight ps
-unfolding keep weight
-weight-keep test [] = omega arith
-weight-keep test (p ∷ ps) =
-    by-cond (λ (qs : List Placed). weight qs ≤ wireSize p + weight ps) (test p) (p ∷ keep test ps) (keep test ps)
-    (λ t. omega (arith, weight-keep test ps))
-    (λ t. omega (arith, weight-keep test ps))
 
 wire-length : (unit : List ℕ) (p : Placed) → Inside (length unit) p → length (wireOf unit (p .obu)) ≡ wireSize p
 unfolding wireSize
@@ -187,7 +206,7 @@ wire-length unit p i =
     let l : length (payloadOf unit o) ≡ o .length = payload-length unit o (i .within) in
     omega (arith, length-append (extensionBytes (o .header) (o .extension)) (encode (length (payloadOf unit o)) ++ payloadOf unit o), length-append (encode (length (payloadOf unit o))) (payloadOf unit o), extension-length (o .header) (o .extension), ap (λ (n : ℕ). length (encode n)) l)
 
-weight-is : (unit : List ℕ) (ps : List Placed) → All (Inside (length unit)) ps → length (flatMap (wireOf unit) (map (λ (p : Placed). p .obu) ps)) ≡ weight ps
+weight-is : (unit : List ℕ) (ps : List Placed) → All (Inside (length unit)) ps → length (flatMap (wireOf unit) (map (λ (p : Placed). p .obu) ps)) ≡ weight wireSize ps
 unfolding flatMap weight
 weight-is unit [] h = refl
 weight-is unit (p ∷ ps) h =
@@ -195,4 +214,4 @@ weight-is unit (p ∷ ps) h =
 
 pub wire-small : (unit : List ℕ) → length unit ≤ unitLimit → length (flatMap (wireOf unit) (obusOf unit)) ≤ length unit + 3
 wire-small unit u =
-    omega (arith, weight-is unit (keptOf unit) (kept-inside unit), weight-keep isKept (scanOf unit .items), weight-from unit 0 u .0)
+    omega (arith, weight-is unit (keptOf unit) (kept-inside unit), weight-keep wireSize isKept (scanOf unit .items), weight-from unit 0 u .0)

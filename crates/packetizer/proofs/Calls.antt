@@ -1,6 +1,6 @@
 -- The plan call: what the list call hands on to it, and its outcomes by the tests that the code makes. Assumes nothing.
 use mathlib.Core.Path.{_≡_, refl, sym, ap, ap₂, _∙_}
-use Prim.Native.Nat.{ℕ, zero, suc, _*_, _/_, _≤_, _<_}
+use Prim.Native.Nat.{ℕ, _*_, _/_, _≤_, _<_}
 use native.Mathlib.Omega.{arith}
 use mathlib.Core.Bool.{Bool, true, false, cond}
 use mathlib.Core.List.{List, [], _∷_, map}
@@ -8,47 +8,45 @@ use lib.ListN.{length, getD, take, length-map}
 use lib.Dec.{ltb}
 use borrow.Author.Tests.{ltb-false, lt-ltb, le-ltb}
 use Rattle.base.specs.Answers.{Answer, given, refused, stored}
-use Rattle.base.specs.Lists.{front, keep, All}
+use Rattle.base.specs.Lists.{front}
 use Rattle.base.proofs.Lists.{front-sets}
-use Rattle.base.proofs.Tests.{by-cond}
-use Rattle.base.proofs.Streams.{stream-count}
-use Rattle.obu.specs.Unit.{unitLimit, Placed, ScanEnd, ended, refusedBy, obuNext, scanOf, isKept, keptOf, obusOf, listedOf, atStop, listed, listAnswer, listAfter}
-use Rattle.obu.specs.Laws.{Inside}
+use Rattle.obu.specs.Unit.{unitLimit, Placed, ScanEnd, ended, refusedBy, scanOf, keptOf, obusOf, listedOf, atStop, listed, listAnswer, listAfter}
 use Rattle.obu.specs.Records.{obuNumbers, flat, obusIn}
 use Rattle.obu.specs.declared.Obu.{Obu}
 use Rattle.obu.specs.declared.Listed.{Listed}
-use Rattle.obu.proofs.Theorems.{kept-inside, inside-size}
+use Rattle.obu.proofs.Theorems.{weight, sizeOf, sizes-small}
 use Rattle.obu.proofs.Records.{obus-part, readBack, obus-flat}
 use Rattle.packetizer.specs.Call.{mtuLimit, sizes, sizesOf, unitPlan, planned, Inputs, toPlan, leaves, planAnswer, planUnit}
 use Rattle.packetizer.specs.Paper.{recorded}
-use Rattle.packetizer.specs.Inside.{Small, Plannable}
-use Rattle.packetizer.specs.Records.{planNumbers, flatPlan}
+use Rattle.packetizer.specs.Plan.{leastMtu, startAfter, startLimit}
+use Rattle.packetizer.specs.Elements.{totalSize}
+use Rattle.packetizer.specs.Inside.{Plannable}
+use Rattle.packetizer.specs.Records.{planNumbers, flatPlan, noPacket}
 use Rattle.packetizer.specs.declared.Planned.{Planned}
 use Rattle.packetizer.proofs.Records.{plan-length}
+use Rattle.packetizer.proofs.Starts.{abut-near, plan-abuts}
+use Rattle.packetizer.proofs.Totals.{total-each, plan-bytes}
+use Rattle.packetizer.proofs.UnitLaws.{unit-positive}
 
--- ---- the OBUs of a unit: at most one a byte, each of at least one byte
+-- ---- the OBUs of a unit: each of at least one byte, and together of no more than it has
 
-keep-count : (test : Placed → Bool) (l : List Placed) → length (keep test l) ≤ length l
-unfolding keep
-keep-count test [] = omega arith
-keep-count test (p ∷ l) =
-    by-cond (λ (m : List Placed). length m ≤ suc (length l)) (test p) (p ∷ keep test l) (keep test l)
-    (λ t. omega (arith, keep-count test l))
-    (λ t. omega (arith, keep-count test l))
+total-weight : (ps : List Placed) → totalSize (sizes (map (λ (p : Placed). p .obu) ps)) ≡ weight sizeOf ps
+unfolding totalSize weight
+total-weight [] = refl
+total-weight (p ∷ ps) = omega (arith, total-weight ps)
 
-pub kept-count : (unit : List ℕ) → length (keptOf unit) ≤ length unit
-kept-count unit = omega (arith, keep-count isKept (scanOf unit .items), stream-count obuNext ended unit 0)
+pub unit-total : (unit : List ℕ) → totalSize (sizesOf unit) ≤ length unit
+unit-total unit = omega (arith, total-weight (keptOf unit), sizes-small unit)
 
-small-from : (total : ℕ) (ps : List Placed) → All (Inside total) ps → total ≤ unitLimit → Small (sizes (map (λ (p : Placed). p .obu) ps))
-small-from total [] h t j l = absurd (omega arith)
-small-from total (p ∷ ps) h t zero l = let z = inside-size total p (h .0) in omega arith
-small-from total (p ∷ ps) h t (suc j) l = small-from total ps (h .1) t j (omega arith)
+pub unit-small : (unit : List ℕ) → length unit ≤ unitLimit → (j : ℕ) → j < length (sizesOf unit)
+    → (1 ≤ getD (sizesOf unit) j 0) × (getD (sizesOf unit) j 0 ≤ unitLimit)
+unit-small unit h j l = (unit-positive unit j l, omega (arith, total-each (sizesOf unit) j l, unit-total unit))
 
-pub unit-small : (unit : List ℕ) → length unit ≤ unitLimit → Small (sizesOf unit)
-unit-small unit h = small-from (length unit) (keptOf unit) (kept-inside unit) h
-
-sizes-count : (unit : List ℕ) → length (sizesOf unit) ≡ length (keptOf unit)
-sizes-count unit = length-map (obusOf unit) (λ (o : Obu). o .size) ∙ length-map (keptOf unit) (λ (p : Placed). p .obu)
+-- where a payload of a unit's plan ends
+pub unit-near : (mtu : ℕ) (unit : List ℕ) (k : ℕ) → leastMtu ≤ mtu → length unit ≤ unitLimit → k < length (unitPlan mtu unit)
+    → startAfter (getD (unitPlan mtu unit) k noPacket) ≤ startLimit
+unit-near mtu unit k m h l =
+    omega (arith, abut-near 0 _ (unitPlan mtu unit) (plan-abuts mtu (sizesOf unit)) k l, plan-bytes mtu (sizesOf unit) m (unit-positive unit), unit-total unit)
 
 -- ---- what the list call says of a unit that it lists
 
@@ -103,7 +101,7 @@ module _ {unit obus obus′ : List ℕ} {g : Listed} (f : Filled unit obus obus�
   pub list-plannable : {mtu : ℕ} (store : Bool) {plan : List ℕ} → mtu ≤ mtuLimit → (store ≡ true → length (unitPlan mtu unit) * planNumbers ≤ length plan)
       → Plannable mtu (sizes (obusIn (take (g .obus * obuNumbers) obus′))) store plan
   list-plannable store m r =
-      rw list-sizes (record { most = m; few = omega (arith, sizes-count unit, kept .0, kept-count unit); small = unit-small unit (kept .0); room = r })
+      rw list-sizes (record { most = m; some = unit-positive unit; total = omega (arith, unit-total unit, kept .0); room = r })
 
 -- ---- the outcomes
 

@@ -10,7 +10,7 @@ use lib.Dec.{ltb, leb, eqb}
 use borrow.Author.Tests.{ltb-true, ltb-false, leb-true, leb-false, eqb-true, eqb-false, lt-ltb}
 use Rattle.base.proofs.Tests.{by-cond, split-on}
 use Rattle.packetizer.specs.Fragment.{fieldSize, largestFragment}
-use Rattle.packetizer.specs.Plan.{mostCounted, newPacket, leftIn, chargeOf, fourthOrLater, isFull, charged, needOf, withElement, fragmentOf, alone, Placing, closing, spread, insert, place}
+use Rattle.packetizer.specs.Plan.{mostCounted, newPacket, leftIn, chargeOf, fourthOrLater, isFull, charged, needOf, withElement, fragmentOf, alone, startAfter, Placing, closing, closingThen, spread, insert, place}
 use Rattle.packetizer.specs.Elements.{element, elementsFrom, elementsOf, elementBytes, fieldBytes, bodySize}
 use Rattle.packetizer.specs.Laws.{position, startsAt, endsAt, Sound, startOf}
 use Rattle.packetizer.specs.declared.PacketMetadata.{PacketMetadata}
@@ -55,20 +55,21 @@ module _ (room : ℕ) (sizes : List ℕ) (large : 2 ≤ room) where
 
   -- ---- P9, P10
 
-  pub spread-leads : (most i s o : ℕ) → i < length sizes → getD sizes i 0 ≡ s → o < s → s ≤ o + most
-      → Leads room sizes (position i o) (i + 1) (spread most room i s o)
+  pub spread-leads : (most i s o start : ℕ) → i < length sizes → getD sizes i 0 ≡ s → o < s → s ≤ o + most
+      → Leads room sizes (position i o) (i + 1) (spread most room i s o start)
   unfolding spread
-  spread-leads zero i s o l e a b = absurd (omega arith)
-  spread-leads (suc most) i s o l e a b =
+  spread-leads zero i s o start l e a b = absurd (omega arith)
+  spread-leads (suc most) i s o start l e a b =
       by-cond (Leads room sizes (position i o) (i + 1)) (ltb room (s - o)) _ _
       (λ t.
       let g : room < s - o = ltb-true room (s - o) t in
-      let c : endsAt sizes (alone i o room) ≡ position i (o + room) = alone-cut room sizes i o room (omega arith) in
-      closing-leads (i + 1) (alone i o room) (spread most room i s (o + room)) (alone-sound room sizes i o room l (omega arith) (omega arith) (omega arith))
-      (rw c (spread-leads most i s (o + room) l e (omega arith) (omega arith))))
+      let p = alone i o room start in
+      let c : endsAt sizes p ≡ position i (o + room) = alone-cut room sizes i o room start (omega arith) in
+      closing-leads (i + 1) p (spread most room i s (o + room) (startAfter p)) (alone-sound room sizes i o room start l (omega arith) (omega arith) (omega arith))
+      (rw c (spread-leads most i s (o + room) (startAfter p) l e (omega arith) (omega arith))))
       (λ t.
       let g : s - o ≤ room = ltb-false room (s - o) t in
-      (refl, alone-ends room sizes i o (s - o) l (omega arith) g (omega arith)))
+      (refl, alone-ends room sizes i o (s - o) start l (omega arith) g (omega arith)))
 
   -- ---- P6 to P8: what an element needs to know of the packet that it is put into
 
@@ -83,9 +84,9 @@ module _ (room : ℕ) (sizes : List ℕ) (large : 2 ≤ room) where
     pub new : p .«num_obu_elements» ≡ 0 → p .«packet_size» ≡ 0
     pub old : (p .«num_obu_elements» ≡ 0 → ⊥) → Ends room sizes i p
 
-  pub before-new : (i : ℕ) → 1 ≤ getD sizes i 0 → Before i (newPacket i)
+  pub before-new : (i start : ℕ) → 1 ≤ getD sizes i 0 → Before i (newPacket i start)
   unfolding elementsFrom elementBytes fieldBytes
-  before-new i h =
+  before-new i start h =
       record {
         next = omega arith;
         start = refl;
@@ -175,17 +176,18 @@ module _ (room : ℕ) (sizes : List ℕ) (large : 2 ≤ room) where
           (go (fragmentOf room (charged p) (getD sizes i 0)) (taken-out h) (fragment-below room (charged p) (getD sizes i 0)) (fragment-fits room (charged p) (getD sizes i 0) (omega (arith, one-free))) (eqb (fragmentOf room (charged p) (getD sizes i 0)) 0) refl)
         where
           go : (f : ℕ) → (f ≡ 0 → Ends room sizes i p) → f ≤ getD sizes i 0 - 1 → needOf (charged p) f ≤ leftIn room (charged p)
-              → (t : Bool) → eqb f 0 ≡ t → Leads room sizes (startsAt p) (i + 1) (closing (cond t p (withElement (charged p) f)) (spread (getD sizes i 0) room i (getD sizes i 0) f))
+              → (t : Bool) → eqb f 0 ≡ t → Leads room sizes (startsAt p) (i + 1) (closingThen (cond t p (withElement (charged p) f)) (spread (getD sizes i 0) room i (getD sizes i 0) f))
           go f o b g true t =
               let z : f ≡ 0 = eqb-true f 0 t in
               let d : Ends room sizes i p = o z in
-              closing-leads (i + 1) p (spread (getD sizes i 0) room i (getD sizes i 0) f) (ends-sound room sizes i p d (omega arith))
-              (rw (ends-at room sizes i p d, z) (spread-leads (getD sizes i 0) i (getD sizes i 0) 0 inside refl (omega arith) (omega arith)))
+              closing-leads (i + 1) p (spread (getD sizes i 0) room i (getD sizes i 0) f (startAfter p)) (ends-sound room sizes i p d (omega arith))
+              (rw (ends-at room sizes i p d, z) (spread-leads (getD sizes i 0) i (getD sizes i 0) 0 (startAfter p) inside refl (omega arith) (omega arith)))
           go f o b g false t =
               let z : f ≡ 0 → ⊥ = eqb-false f 0 t in
-              closing-leads (i + 1) (withElement (charged p) f) (spread (getD sizes i 0) room i (getD sizes i 0) f)
+              let q = withElement (charged p) f in
+              closing-leads (i + 1) q (spread (getD sizes i 0) room i (getD sizes i 0) f (startAfter q))
               (put-sound f (omega arith) (omega arith) (omega (arith, one-free)))
-              (rw (put-at f (omega arith)) (spread-leads (getD sizes i 0) i (getD sizes i 0) f inside refl (omega arith) (omega arith)))
+              (rw (put-at f (omega arith)) (spread-leads (getD sizes i 0) i (getD sizes i 0) f (startAfter q) inside refl (omega arith) (omega arith)))
 
       pub insert-leads : Leads room sizes (startsAt p) (i + 1) (insert room i (getD sizes i 0) p)
       insert-leads =
@@ -195,18 +197,22 @@ module _ (room : ℕ) (sizes : List ℕ) (large : 2 ≤ room) where
 
   -- ---- P5
 
-  insert-new : (i : ℕ) → i < length sizes → 1 ≤ getD sizes i 0 → Leads room sizes (position i 0) (i + 1) (insert room i (getD sizes i 0) (newPacket i))
-  insert-new i l s = insert-leads i (newPacket i) (before-new i s) l s (not-full room (newPacket i) (new-free i room (omega arith)))
+  insert-new : (i start : ℕ) → i < length sizes → 1 ≤ getD sizes i 0
+      → Leads room sizes (position i 0) (i + 1) (insert room i (getD sizes i 0) (newPacket i start))
+  insert-new i start l s =
+      insert-leads i (newPacket i start) (before-new i start s) l s (not-full room (newPacket i start) (new-free i start room (omega arith)))
 
-  pub place-first : (i : ℕ) → i < length sizes → 1 ≤ getD sizes i 0 → Leads room sizes (position i 0) (i + 1) (place room i (getD sizes i 0) (newPacket i))
-  place-first i l s = rw (place-on room i (getD sizes i 0) (newPacket i) (new-free i room (omega arith))) (insert-new i l s)
+  pub place-first : (i start : ℕ) → i < length sizes → 1 ≤ getD sizes i 0
+      → Leads room sizes (position i 0) (i + 1) (place room i (getD sizes i 0) (newPacket i start))
+  place-first i start l s = rw (place-on room i (getD sizes i 0) (newPacket i start) (new-free i start room (omega arith))) (insert-new i start l s)
 
   pub place-leads : (i : ℕ) (p : PacketMetadata) → Ends room sizes i p → i < length sizes → 1 ≤ getD sizes i 0
       → Leads room sizes (startsAt p) (i + 1) (place room i (getD sizes i 0) p)
   place-leads i p d l s =
       split-on (isFull room p)
       (λ t.
-      rw (place-new room i (getD sizes i 0) p (newPacket i) refl t)
-      (closing-leads (i + 1) p (insert room i (getD sizes i 0) (newPacket i)) (ends-sound room sizes i p d (omega arith))
-      (rw (ends-at room sizes i p d) (insert-new i l s))))
+      let q = newPacket i (startAfter p) in
+      rw (place-new room i (getD sizes i 0) p q refl t)
+      (closing-leads (i + 1) p (insert room i (getD sizes i 0) q) (ends-sound room sizes i p d (omega arith))
+      (rw (ends-at room sizes i p d) (insert-new i (startAfter p) l s))))
       (λ t. rw (place-on room i (getD sizes i 0) p t) (insert-leads i p (before-ends i p d) l s (not-full room p t)))

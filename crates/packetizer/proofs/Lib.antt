@@ -11,6 +11,8 @@ pub mod Runs
 pub mod Leading
 pub mod Planning
 pub mod Laws
+pub mod Starts
+pub mod Totals
 pub mod Turns
 pub mod Calls
 pub mod Pieces

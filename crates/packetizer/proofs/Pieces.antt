@@ -12,9 +12,10 @@ use lib.Dec.{ltb}
 use borrow.Author.Tests.{ltb-true, ltb-false, le-ltb}
 use Rattle.base.specs.Lists.{All, joined}
 use Rattle.base.proofs.Tests.{by-cond, split-on}
-use Rattle.packetizer.specs.Plan.{leastMtu, newPacket, planOf}
+use Rattle.packetizer.specs.Plan.{leastMtu, planOf}
 use Rattle.packetizer.specs.Elements.{Element, element, elementsFrom, elementsOf}
 use Rattle.packetizer.specs.Laws.{Position, position, startsAt, endOf, endsAt, Sound, Runs, startOf, Positive, EndsObu, partOf}
+use Rattle.packetizer.specs.Records.{noPacket}
 use Rattle.packetizer.specs.declared.PacketMetadata.{PacketMetadata}
 use Rattle.packetizer.proofs.Bodies.{start-zero, start-more, elements-step, elements-one, elements-count}
 use Rattle.packetizer.proofs.Laws.{plan-runs, plan-sound}
@@ -50,7 +51,7 @@ module _ (sizes : List ℕ) (some : Positive sizes) where
       let ih = record-tiles n (i + 1) 0 last (omega arith) (some (i + 1) (omega arith)) l (rw (z, ← q) (rw m at w)) in
       rw (elements-step sizes n i o last) (refl, omega arith, omega arith, rw (t, d, m) (rw z at ih))
 
-  plan-tile : (room : ℕ) (p : PacketMetadata) → Sound room sizes p → Tiles sizes (startsAt p) (elementsOf sizes p) (endsAt sizes p)
+  pub plan-tile : (room : ℕ) (p : PacketMetadata) → Sound room sizes p → Tiles sizes (startsAt p) (elementsOf sizes p) (endsAt sizes p)
   plan-tile room p h = go (p .«num_obu_elements») (h .some) (h .inside) (h .within)
     where
       go : (n : ℕ) → 1 ≤ n → p .«first_obu_index» + n ≤ length sizes → startOf n (p .«first_obu_offset») + p .«last_obu_size» ≤ getD sizes (p .«first_obu_index» + n - 1) 0
@@ -87,9 +88,9 @@ inner-ends sizes some (suc (suc n)) i o last h f =
     (omega arith, inner-ends sizes some (suc n) (i + 1) 0 last (omega arith) (omega arith))
 
 pub plan-inner : (mtu : ℕ) (sizes : List ℕ) → leastMtu ≤ mtu → Positive sizes → (k : ℕ) → k < length (planOf mtu sizes)
-    → All (EndsObu sizes) (dropLast (elementsOf sizes (getD (planOf mtu sizes) k (newPacket 0))))
+    → All (EndsObu sizes) (dropLast (elementsOf sizes (getD (planOf mtu sizes) k noPacket)))
 plan-inner mtu sizes l some k h =
-    let p : PacketMetadata = getD (planOf mtu sizes) k (newPacket 0) in
+    let p : PacketMetadata = getD (planOf mtu sizes) k noPacket in
     let s : Sound (mtu - 1) sizes p = plan-sound mtu sizes l some k h in
     inner-ends sizes some (p .«num_obu_elements») (p .«first_obu_index») (p .«first_obu_offset») (p .«last_obu_size») (s .inside) (omega (arith, s .from))
 

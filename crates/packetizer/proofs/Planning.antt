@@ -35,7 +35,7 @@ unfolding planOf
 plan-low mtu [] h = refl
 plan-low mtu (s ∷ ss) h = rw (lt-ltb mtu leastMtu h)
 
-pub plan-some : (mtu : ℕ) (sizes : List ℕ) → leastMtu ≤ mtu → (length sizes ≡ 0 → ⊥) → planOf mtu sizes ≡ planFrom (mtu - 1) 0 sizes (newPacket 0)
+pub plan-some : (mtu : ℕ) (sizes : List ℕ) → leastMtu ≤ mtu → (length sizes ≡ 0 → ⊥) → planOf mtu sizes ≡ planFrom (mtu - 1) 0 sizes (newPacket 0 0)
 unfolding planOf
 plan-some mtu [] h k = absurd (k refl)
 plan-some mtu (s ∷ ss) h k = rw (le-ltb mtu leastMtu h)
@@ -54,11 +54,11 @@ module _ (room : ℕ) (sizes : List ℕ) (large : 2 ≤ room) (some : Positive s
       (runs-append room sizes (startsAt p) (startsAt (x .current)) (position (length sizes) 0) (x .closed) (planFrom room (i + 1) (drop (i + 1) sizes) (x .current)) (h .0)
       (plan-goes k (i + 1) (x .current) (omega arith) (h .1)))
 
-  pub plan-begins : (length sizes ≡ 0 → ⊥) → Runs room sizes (position 0 0) (planFrom room 0 sizes (newPacket 0)) (position (length sizes) 0)
+  pub plan-begins : (length sizes ≡ 0 → ⊥) → Runs room sizes (position 0 0) (planFrom room 0 sizes (newPacket 0 0)) (position (length sizes) 0)
   plan-begins n =
       let l : 0 < length sizes = omega arith in
-      let x = place room 0 (getD sizes 0 0) (newPacket 0) in
-      let h = place-first room sizes large 0 l (some 0 l) in
-      rw (plan-step room sizes 0 (newPacket 0) l)
+      let x = place room 0 (getD sizes 0 0) (newPacket 0 0) in
+      let h = place-first room sizes large 0 0 l (some 0 l) in
+      rw (plan-step room sizes 0 (newPacket 0 0) l)
       (runs-append room sizes (position 0 0) (startsAt (x .current)) (position (length sizes) 0) (x .closed) (planFrom room 1 (drop 1 sizes) (x .current)) (h .0)
       (plan-goes (length sizes - 1) 1 (x .current) (omega arith) (h .1)))

@@ -27,7 +27,7 @@ module _ (l : List ℕ) (k : ℕ) (h : k < length l / planNumbers) where
   abbrev numberAt : ℕ → ℕ
   numberAt j = getD l (k * planNumbers + j) 0
 
-  pub packet-in : packetRecord (getD l (k * planNumbers) 0 ∷ numberAt 1 ∷ numberAt 2 ∷ numberAt 3 ∷ numberAt 4 ∷ []) ≡ getD (packetsIn l) k noPacket
+  pub packet-in : packetRecord (getD l (k * planNumbers) 0 ∷ numberAt 1 ∷ numberAt 2 ∷ numberAt 3 ∷ numberAt 4 ∷ numberAt 5 ∷ []) ≡ getD (packetsIn l) k noPacket
   packet-in =
       rw (records.record-at planNumbers packetRecord l k noPacket h, getD-drop (k * planNumbers) l 0 0, add-zero)
       (simp getD-drop)

@@ -47,15 +47,15 @@ plans :
     map (λ (r : Row). flatPlan (planOf (r .mtu) (r .sizes))) rows
     ≡ []
     ∷ []
-    ∷ (0 ∷ 1 ∷ 0 ∷ 1 ∷ 1 ∷ 0 ∷ 1 ∷ 1 ∷ 1 ∷ 1 ∷ [])
-    ∷ (0 ∷ 1 ∷ 0 ∷ 2 ∷ 2 ∷ [])
-    ∷ (0 ∷ 1 ∷ 0 ∷ 2 ∷ 2 ∷ 1 ∷ 1 ∷ 0 ∷ 1 ∷ 1 ∷ [])
-    ∷ (0 ∷ 2 ∷ 0 ∷ 6 ∷ 11 ∷ [])
-    ∷ (0 ∷ 1 ∷ 0 ∷ 2 ∷ 2 ∷ 0 ∷ 1 ∷ 2 ∷ 2 ∷ 2 ∷ 1 ∷ 1 ∷ 0 ∷ 2 ∷ 2 ∷ 1 ∷ 1 ∷ 2 ∷ 2 ∷ 2 ∷ 1 ∷ 1 ∷ 4 ∷ 2 ∷ 2 ∷ [])
-    ∷ (0 ∷ 3 ∷ 0 ∷ 1 ∷ 5 ∷ [])
-    ∷ (0 ∷ 4 ∷ 0 ∷ 1 ∷ 8 ∷ [])
-    ∷ (0 ∷ 1 ∷ 0 ∷ 2 ∷ 2 ∷ 0 ∷ 1 ∷ 2 ∷ 1 ∷ 1 ∷ [])
-    ∷ (0 ∷ 3 ∷ 0 ∷ 1 ∷ 5 ∷ 3 ∷ 1 ∷ 0 ∷ 6 ∷ 6 ∷ 3 ∷ 1 ∷ 6 ∷ 1 ∷ 1 ∷ [])
+    ∷ (0 ∷ 1 ∷ 0 ∷ 1 ∷ 1 ∷ 0 ∷ 0 ∷ 1 ∷ 1 ∷ 1 ∷ 1 ∷ 2 ∷ [])
+    ∷ (0 ∷ 1 ∷ 0 ∷ 2 ∷ 2 ∷ 0 ∷ [])
+    ∷ (0 ∷ 1 ∷ 0 ∷ 2 ∷ 2 ∷ 0 ∷ 1 ∷ 1 ∷ 0 ∷ 1 ∷ 1 ∷ 3 ∷ [])
+    ∷ (0 ∷ 2 ∷ 0 ∷ 6 ∷ 11 ∷ 0 ∷ [])
+    ∷ (0 ∷ 1 ∷ 0 ∷ 2 ∷ 2 ∷ 0 ∷ 0 ∷ 1 ∷ 2 ∷ 2 ∷ 2 ∷ 3 ∷ 1 ∷ 1 ∷ 0 ∷ 2 ∷ 2 ∷ 6 ∷ 1 ∷ 1 ∷ 2 ∷ 2 ∷ 2 ∷ 9 ∷ 1 ∷ 1 ∷ 4 ∷ 2 ∷ 2 ∷ 12 ∷ [])
+    ∷ (0 ∷ 3 ∷ 0 ∷ 1 ∷ 5 ∷ 0 ∷ [])
+    ∷ (0 ∷ 4 ∷ 0 ∷ 1 ∷ 8 ∷ 0 ∷ [])
+    ∷ (0 ∷ 1 ∷ 0 ∷ 2 ∷ 2 ∷ 0 ∷ 0 ∷ 1 ∷ 2 ∷ 1 ∷ 1 ∷ 3 ∷ [])
+    ∷ (0 ∷ 3 ∷ 0 ∷ 1 ∷ 5 ∷ 0 ∷ 3 ∷ 1 ∷ 0 ∷ 6 ∷ 6 ∷ 6 ∷ 3 ∷ 1 ∷ 6 ∷ 1 ∷ 1 ∷ 13 ∷ [])
     ∷ []
 unfolding rows largestFragment chargeOf isFull needOf fragmentOf spread insert place planFrom planOf flatMap encodeIn
 plans = refl
@@ -63,7 +63,7 @@ plans = refl
 -- ---- the call: units, with two OBU records and two plan records lent
 
 lists : List ℕ
-lists = 9 ∷ 9 ∷ 9 ∷ 9 ∷ 9 ∷ 9 ∷ 9 ∷ 9 ∷ 9 ∷ 9 ∷ 9 ∷ []
+lists = 9 ∷ 9 ∷ 9 ∷ 9 ∷ 9 ∷ 9 ∷ 9 ∷ 9 ∷ 9 ∷ 9 ∷ 9 ∷ 9 ∷ 9 ∷ 9 ∷ []
 
 -- an mtu and a unit
 record Call : Type 0 where
@@ -119,7 +119,7 @@ answers = refl
 -- what refusal 9 leaves: the OBU list filled, the plan list as it was
 after-9 :
     planUnit (toPlan 3 (0x32 ∷ 4 ∷ 1 ∷ 2 ∷ 3 ∷ 4 ∷ []) lists lists) .obus
-    ≡ 0x32 ∷ 0 ∷ 2 ∷ 4 ∷ 5 ∷ 9 ∷ 9 ∷ 9 ∷ 9 ∷ 9 ∷ 9 ∷ []
+    ≡ 0x32 ∷ 0 ∷ 2 ∷ 4 ∷ 5 ∷ 9 ∷ 9 ∷ 9 ∷ 9 ∷ 9 ∷ 9 ∷ 9 ∷ 9 ∷ 9 ∷ []
 unfolding lists encodeIn listed streamFrom frontOf headed fieldIn keep flatMap
 after-9 = refl
 

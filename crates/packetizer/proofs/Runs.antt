@@ -56,12 +56,12 @@ module _ (room : ℕ) (sizes : List ℕ) where
 
   -- ---- a packet with one element
 
-  alone-paid : (i o n : ℕ) → n ≡ bodySize (elementsOf sizes (alone i o n))
+  alone-paid : (i o n start : ℕ) → n ≡ bodySize (elementsOf sizes (alone i o n start))
   unfolding elementBytes fieldBytes
-  alone-paid i o n = rw (elements-one sizes i o n) (omega arith)
+  alone-paid i o n start = rw (elements-one sizes i o n) (omega arith)
 
-  module _ (i o n : ℕ) (inside : i < length sizes) (some : 1 ≤ n) (fits : n ≤ room) where
-    pub alone-sound : o + n ≤ getD sizes i 0 → Sound room sizes (alone i o n)
+  module _ (i o n start : ℕ) (inside : i < length sizes) (some : 1 ≤ n) (fits : n ≤ room) where
+    pub alone-sound : o + n ≤ getD sizes i 0 → Sound room sizes (alone i o n start)
     alone-sound h =
         let e : i + 1 - 1 ≡ i = omega arith in
         record {
@@ -70,12 +70,12 @@ module _ (room : ℕ) (sizes : List ℕ) where
           from = omega arith;
           last = some;
           within = rw e h;
-          paid = alone-paid i o n;
+          paid = alone-paid i o n start;
           least = some;
           most = fits;
         }
 
-    pub alone-ends : o + n ≡ getD sizes i 0 → Ends room sizes (i + 1) (alone i o n)
+    pub alone-ends : o + n ≡ getD sizes i 0 → Ends room sizes (i + 1) (alone i o n start)
     alone-ends h =
         let e : i + 1 - 1 ≡ i = omega arith in
         record {
@@ -84,12 +84,12 @@ module _ (room : ℕ) (sizes : List ℕ) where
           from = omega arith;
           last = some;
           whole = rw e h;
-          paid = alone-paid i o n;
+          paid = alone-paid i o n start;
           few = some;
           fits = fits;
         }
 
-  pub alone-cut : (i o n : ℕ) → o + n < getD sizes i 0 → endsAt sizes (alone i o n) ≡ position i (o + n)
-  alone-cut i o n h =
+  pub alone-cut : (i o n start : ℕ) → o + n < getD sizes i 0 → endsAt sizes (alone i o n start) ≡ position i (o + n)
+  alone-cut i o n start h =
       let e : i + 1 - 1 ≡ i = omega arith in
       rw (e, lt-ltb (o + n) (getD sizes i 0) h)

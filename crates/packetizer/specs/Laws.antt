@@ -1,4 +1,4 @@
--- What the laws of a plan are stated with (P13, P14).
+-- What the laws of a plan are stated with (P13, P14, P16).
 use mathlib.Core.Path.{_≡_}
 use Prim.Native.Nat.{ℕ, _+_, _-_, _≤_, _<_}
 use mathlib.Core.List.{List, [], _∷_, map}
@@ -7,6 +7,7 @@ use lib.ListN.{length, getD, take, drop}
 use lib.Dec.{ltb, eqb}
 use Rattle.obu.specs.Unit.{obusOf}
 use Rattle.obu.specs.Wire.{sent}
+use Rattle.packetizer.specs.Plan.{startAfter}
 use Rattle.packetizer.specs.Elements.{Element, elementsOf, bodySize}
 use Rattle.packetizer.specs.declared.PacketMetadata.{PacketMetadata}
 
@@ -57,6 +58,18 @@ pub record Sound (room : ℕ) (sizes : List ℕ) (p : PacketMetadata) : Type 0 w
 abbrev pub Runs : ℕ → List ℕ → Position → List PacketMetadata → Position → Type 0
 Runs room sizes a [] b = a ≡ b
 Runs room sizes a (p ∷ ps) b = (startsAt p ≡ a) × Sound room sizes p × Runs room sizes (endsAt sizes p) ps b
+
+-- ---- where payloads start
+
+-- records whose payloads stand side by side from one place in the output to another, each from where the one before ended
+abbrev pub Abut : ℕ → List PacketMetadata → ℕ → Type 0
+Abut a [] b = a ≡ b
+Abut a (p ∷ ps) b = (p .«payload_start» ≡ a) × Abut (startAfter p) ps b
+
+-- what a plan says that payloads take together, a byte more than each packet size
+unfoldable pub plannedBytes : List PacketMetadata → ℕ
+plannedBytes [] = 0
+plannedBytes (p ∷ ps) = p .«packet_size» + 1 + plannedBytes ps
 
 -- ---- elements of OBUs
 

@@ -7,7 +7,7 @@ use Rattle.packetizer.specs.Plan.{newPacket}
 use Rattle.packetizer.specs.declared.PacketMetadata.{PacketMetadata}
 
 abbrev pub planNumbers : ℕ
-planNumbers = 5
+planNumbers = 6
 
 -- the numbers of a record, and of a plan
 abbrev pub recordNumbers : PacketMetadata → List ℕ
@@ -17,6 +17,7 @@ recordNumbers p =
     ∷ p .«first_obu_offset»
     ∷ p .«last_obu_size»
     ∷ p .«packet_size»
+    ∷ p .«payload_start»
     ∷ []
 
 abbrev pub flatPlan : List PacketMetadata → List ℕ
@@ -31,6 +32,7 @@ packetRecord l =
       «first_obu_offset» = getD l 2 0;
       «last_obu_size» = getD l 3 0;
       «packet_size» = getD l 4 0;
+      «payload_start» = getD l 5 0;
     }
 
 abbrev pub packetsIn : List ℕ → List PacketMetadata
@@ -38,4 +40,4 @@ packetsIn l = recordsIn planNumbers packetRecord l
 
 -- what stands past the end of a list
 abbrev pub noPacket : PacketMetadata
-noPacket = newPacket 0
+noPacket = newPacket 0 0

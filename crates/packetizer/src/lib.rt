@@ -13,7 +13,7 @@ ghost use Rattle.obu.specs.Records.{obusIn};
 ghost use Rattle.packetizer.specs.Plan.{chargeOf, spread, insert, place, planOf};
 ghost use Rattle.packetizer.specs.Call.{sizes, toPlan, leaves, planUnit};
 ghost use Rattle.packetizer.specs.Paper.{paper, recorded};
-ghost use Rattle.packetizer.specs.Inside.{Plannable};
+ghost use Rattle.packetizer.specs.Inside.{Plannable, Closable, Closed};
 ghost use Rattle.packetizer.specs.Records.{planNumbers, packetsIn, noPacket};
 
 // The largest mtu, the smallest that gives packets, the numbers of a record in a flat list, and the byte that every payload begins with.
@@ -21,20 +21,24 @@ const MTU_LIMIT: usize = 65533;
 
 const LEAST_MTU: usize = 3;
 
-pub const PLAN_NUMBERS: usize = 5;
+pub const PLAN_NUMBERS: usize = 6;
 
 // With so many elements in a packet, or fewer, the last has no length field.
 pub const MAX_NUM_OBUS_TO_OMIT_SIZE: u32 = 3;
 
 const AGGREGATION_HEADER_SIZE: usize = 1;
 
-// A packet of a plan, under the names of the Rust.
+// The most that where a payload ends can be (L17).
+pub const START_LIMIT: u64 = 4294967295;
+
+// A packet of a plan, under the names of the Rust; and where its payload starts in the output.
 pub struct PacketMetadata {
     pub first_obu_index: u32,
     pub num_obu_elements: u32,
     pub first_obu_offset: u32,
     pub last_obu_size: u32,
     pub packet_size: u32,
+    pub payload_start: u32,
 }
 
 // What a call plans.
@@ -67,6 +71,7 @@ fn put_record(plan: &mut [u32], n: usize, p: PacketMetadata, store: bool)
             p.first_obu_offset,
             p.last_obu_size,
             p.packet_size,
+            p.payload_start,
         ];
         base::put_numbers(plan, n * PLAN_NUMBERS, &numbers);
     }
@@ -85,10 +90,11 @@ pub fn packet_at(plan: &[u32], k: usize) -> PacketMetadata
         first_obu_offset: plan[at + 2],
         last_obu_size: plan[at + 3],
         packet_size: plan[at + 4],
+        payload_start: plan[at + 5],
     }
 }
 
-// Spreads the OBU i from `from` on over new packets: the last one is the current packet.
+// Spreads the OBU i from `from` on over new packets, the first of them at `start`: the last one is the current packet.
 fn spread_obu(
     plan: &mut [u32],
     store: bool,
@@ -96,24 +102,25 @@ fn spread_obu(
     i: u32,
     size: u32,
     from: u32,
+    start: u32,
     records: usize,
 ) -> Filling
     requires { ⌜ (1 ≤ room) × (from < size) × (size ≤ unitLimit) ⌝ }
-    requires { ⌜ records + length (spread size room i size from .closed) ≤ unitLimit * unitLimit ⌝ }
-    requires { ⌜ (store ≡ true → (records + length (spread size room i size from .closed)) * planNumbers ≤ length (now plan)) ⌝ }
-    ensures { λ r. ⌜ (r .packet ≡ spread size room i size from .current)
-        × (r .records ≡ records + length (spread size room i size from .closed))
-        × (now (plan .exit) ≡ recorded store (now (plan .entry)) records (spread size room i size from .closed)) ⌝ }
+    requires { ⌜ Closable store (now plan) records (spread size room i size from start) ⌝ }
+    ensures { λ r. ⌜ Closed store (now (plan .entry)) records (spread size room i size from start) (r .packet) (r .records) (now (plan .exit)) ⌝ }
 {
     let mut n = records;
     let mut offset = from;
+    let mut next = start;
     while room < size - offset {
-        put_record(plan, n, packet::alone_in_packet(i, offset, room), store);
+        let p = packet::alone_in_packet(i, offset, room, next);
+        put_record(plan, n, p, store);
         n += 1;
         offset += room;
+        next = packet::start_after(p);
     }
     Filling {
-        packet: packet::alone_in_packet(i, offset, size - offset),
+        packet: packet::alone_in_packet(i, offset, size - offset, next),
         records: n,
     }
 }
@@ -122,11 +129,8 @@ fn spread_obu(
 fn insert_obu(plan: &mut [u32], store: bool, room: u32, i: u32, size: u32, f: Filling) -> Filling
     requires { ⌜ (f .packet .«num_obu_elements» ≤ f .packet .«packet_size») × (f .packet .«packet_size» + chargeOf (f .packet) ≤ room)
         × (1 ≤ room) × (room ≤ unitLimit) × (1 ≤ size) × (size ≤ unitLimit) ⌝ }
-    requires { ⌜ f .records + length (insert room i size (f .packet) .closed) ≤ unitLimit * unitLimit ⌝ }
-    requires { ⌜ (store ≡ true → (f .records + length (insert room i size (f .packet) .closed)) * planNumbers ≤ length (now plan)) ⌝ }
-    ensures { λ r. ⌜ (r .packet ≡ insert room i size (f .packet) .current)
-        × (r .records ≡ f .records + length (insert room i size (f .packet) .closed))
-        × (now (plan .exit) ≡ recorded store (now (plan .entry)) (f .records) (insert room i size (f .packet) .closed)) ⌝ }
+    requires { ⌜ Closable store (now plan) (f .records) (insert room i size (f .packet)) ⌝ }
+    ensures { λ r. ⌜ Closed store (now (plan .entry)) (f .records) (insert room i size (f .packet)) (r .packet) (r .records) (now (plan .exit)) ⌝ }
 {
     let p = f.packet;
     let q = packet::charge(p);
@@ -137,22 +141,22 @@ fn insert_obu(plan: &mut [u32], store: bool, room: u32, i: u32, size: u32, f: Fi
         };
     }
     let n = packet::first_fragment_size(room, q, size);
-    put_record(plan, f.records, packet::cut_at(p, q, n), store);
-    spread_obu(plan, store, room, i, size, n, f.records + 1)
+    let cut = packet::cut_at(p, q, n);
+    put_record(plan, f.records, cut, store);
+    let start = packet::start_after(cut);
+    spread_obu(plan, store, room, i, size, n, start, f.records + 1)
 }
 
 // Places the OBU i: in a new packet if the current one is full.
 fn place_obu(plan: &mut [u32], store: bool, room: u32, i: u32, size: u32, f: Filling) -> Filling
     requires { ⌜ (f .packet .«num_obu_elements» ≤ f .packet .«packet_size») × (f .packet .«packet_size» ≤ room)
         × (1 ≤ room) × (room ≤ unitLimit) × (1 ≤ size) × (size ≤ unitLimit) ⌝ }
-    requires { ⌜ f .records + length (place room i size (f .packet) .closed) ≤ unitLimit * unitLimit ⌝ }
-    requires { ⌜ (store ≡ true → (f .records + length (place room i size (f .packet) .closed)) * planNumbers ≤ length (now plan)) ⌝ }
-    ensures { λ r. ⌜ (r .packet ≡ place room i size (f .packet) .current)
-        × (r .records ≡ f .records + length (place room i size (f .packet) .closed))
-        × (now (plan .exit) ≡ recorded store (now (plan .entry)) (f .records) (place room i size (f .packet) .closed)) ⌝ }
+    requires { ⌜ Closable store (now plan) (f .records) (place room i size (f .packet)) ⌝ }
+    ensures { λ r. ⌜ Closed store (now (plan .entry)) (f .records) (place room i size (f .packet)) (r .packet) (r .records) (now (plan .exit)) ⌝ }
 {
     if packet::is_full(room, f.packet) {
         put_record(plan, f.records, f.packet, store);
+        let start = packet::start_after(f.packet);
         return insert_obu(
             plan,
             store,
@@ -160,7 +164,7 @@ fn place_obu(plan: &mut [u32], store: bool, room: u32, i: u32, size: u32, f: Fil
             i,
             size,
             Filling {
-                packet: packet::new_packet(i),
+                packet: packet::new_packet(i, start),
                 records: f.records + 1,
             },
         );
@@ -183,7 +187,7 @@ fn packetize(obus: &[u32], mtu: usize, plan: &mut [u32], store: bool) -> usize
     }
     let room = (mtu - AGGREGATION_HEADER_SIZE) as u32;
     let mut f = Filling {
-        packet: packet::new_packet(0),
+        packet: packet::new_packet(0, 0),
         records: 0,
     };
     let mut i: usize = 0;

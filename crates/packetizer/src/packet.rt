@@ -5,11 +5,11 @@ ghost use mathlib.Core.Path.{_≡_};
 ghost use Prim.Native.Nat.{_+_, _≤_, min};
 ghost use Rattle.obu.specs.Unit.{unitLimit};
 ghost use Rattle.packetizer.specs.Fragment.{Largest};
-ghost use Rattle.packetizer.specs.Plan.{newPacket, chargeOf, isFull, charged, needOf, withElement, fragmentOf, alone, cutAt};
+ghost use Rattle.packetizer.specs.Plan.{newPacket, chargeOf, isFull, charged, needOf, withElement, fragmentOf, alone, startAfter, startLimit, cutAt};
 
 // A packet with nothing in it yet.
-pub fn new_packet(i: u32) -> PacketMetadata
-    ensures { λ r. ⌜ r ≡ newPacket i ⌝ }
+pub fn new_packet(i: u32, start: u32) -> PacketMetadata
+    ensures { λ r. ⌜ r ≡ newPacket i start ⌝ }
 {
     PacketMetadata {
         first_obu_index: i,
@@ -17,12 +17,13 @@ pub fn new_packet(i: u32) -> PacketMetadata
         first_obu_offset: 0,
         last_obu_size: 0,
         packet_size: 0,
+        payload_start: start,
     }
 }
 
 // A packet whose one element is n bytes of OBU i.
-pub fn alone_in_packet(i: u32, offset: u32, n: u32) -> PacketMetadata
-    ensures { λ r. ⌜ r ≡ alone i offset n ⌝ }
+pub fn alone_in_packet(i: u32, offset: u32, n: u32, start: u32) -> PacketMetadata
+    ensures { λ r. ⌜ r ≡ alone i offset n start ⌝ }
 {
     PacketMetadata {
         first_obu_index: i,
@@ -30,7 +31,17 @@ pub fn alone_in_packet(i: u32, offset: u32, n: u32) -> PacketMetadata
         first_obu_offset: offset,
         last_obu_size: n,
         packet_size: n,
+        payload_start: start,
     }
+}
+
+// Where the payload after this packet's starts.
+// Helper: that must be at most 4,294,967,295.
+pub fn start_after(p: PacketMetadata) -> u32
+    requires { ⌜ startAfter p ≤ startLimit ⌝ }
+    ensures { λ r. ⌜ r ≡ startAfter p ⌝ }
+{
+    p.payload_start + p.packet_size + 1
 }
 
 // What a further element costs the one before it: its length field.
@@ -72,6 +83,7 @@ pub fn charge(p: PacketMetadata) -> PacketMetadata
         first_obu_offset: p.first_obu_offset,
         last_obu_size: p.last_obu_size,
         packet_size: p.packet_size + additional_bytes_for_previous_obu_element(p),
+        payload_start: p.payload_start,
     }
 }
 
@@ -99,6 +111,7 @@ pub fn with_element(p: PacketMetadata, n: u32) -> PacketMetadata
         first_obu_offset: p.first_obu_offset,
         last_obu_size: n,
         packet_size: p.packet_size + required_bytes(p, n),
+        payload_start: p.payload_start,
     }
 }
 

@@ -33,7 +33,7 @@ use Rattle.packing.specs.Run.{pack, runOf}
 use Rattle.packing.specs.declared.unit.Progress.{Progress}
 use Rattle.packing.specs.declared.Wait.the-variants as wait
 use Rattle.packing.specs.declared.Place.{Place}
-use Rattle.packing.proofs.Recording.{payloads-count}
+use Rattle.payloader.proofs.Starts.{payloads-count}
 
 abbrev run : ℕ → Told Place → List ℕ → List ℕ → Output
 run = loop pack
@@ -182,7 +182,7 @@ module _ (mtu : ℕ) where
     run-packets (x ∷ ps) (suc turns) n g w e f h k =
         let rest : drop (g .packet + 1) (payloadsOf mtu u) ≡ ps = sym (drop-drop 1 (g .packet) (payloadsOf mtu u)) ∙ ap (drop 1) f in
         ap (also w [])
-        (rw (e, f) (run-packets ps turns (nextNumber n) (after g (length x)) (recordBytes (trainHead .width) (record { number = n; payload = x })) e rest (omega arith) (omega arith)
+        (rw (e, f) (run-packets ps turns (nextNumber n) (after g) (recordBytes (trainHead .width) (record { number = n; payload = x })) e rest (omega arith) (omega arith)
         ∙ ap (λ (a : List ℕ). record { written = a; said = saidAt (units-at (nextCount i) l .stop) })
         (sym (append-assoc (recordBytes (trainHead .width) (record { number = n; payload = x })) (writtenRecords (trainHead .width) (nextNumber n) ps) (records-of (numberAfter (nextNumber n) ps) (units-at (nextCount i) l .items))))))
 

@@ -21,9 +21,9 @@ use Rattle.payloader.specs.Call.{written, toWrite, payloadAnswer, writeUnit}
 use Rattle.payloader.specs.declared.Payloads.{Payloads}
 use Rattle.payloader.proofs.Calls.{accepted}
 use Rattle.packing.specs.Pack.{outputBytes, answerIn, cutShort, refusedBy, packed, packedBy, unitIn}
-use Rattle.packing.specs.Steps.{listNumbers, begins, stepIn, Ready}
+use Rattle.packing.specs.Steps.{obuListNumbers, planListNumbers, begins, stepIn, Ready}
 use Rattle.packing.specs.declared.unit.UnitAnswer.the-variants as unit
-use Rattle.packing.proofs.Recording.{payloads-count}
+use Rattle.payloader.proofs.Starts.{payloads-count}
 
 -- ---- what is known where the payload call has written
 
@@ -96,7 +96,7 @@ pub packed-one : {m n : ℕ} → unit.Packed m ≡ unit.Packed n → m ≡ n
 packed-one e = cc
 
 -- with the stores of the rules
-pub step-in : (mtu s : ℕ) (l obus plan out : List ℕ) → length obus ≡ listNumbers → length plan ≡ listNumbers → length out ≡ outputBytes
+pub step-in : (mtu s : ℕ) (l obus plan out : List ℕ) → length obus ≡ obuListNumbers → length plan ≡ planListNumbers → length out ≡ outputBytes
     → unitIn (answerIn (length obus / obuNumbers) (length plan / planNumbers) (length out)) mtu s l ≡ stepIn mtu s l
 step-in mtu s l obus plan out a b c = rw (a, b, c) refl
 

@@ -5,6 +5,7 @@ use mathlib.Core.List.{List, [], _∷_}
 use lib.ListN.{length, take, drop}
 use Rattle.base.specs.Lists.{joined}
 use Rattle.obu.specs.Unit.{unitLimit}
+use Rattle.obu.specs.Records.{obuNumbers}
 use Rattle.packetizer.specs.Call.{mtuLimit, unitPlan}
 use Rattle.packetizer.specs.Records.{planNumbers, flatPlan}
 use Rattle.payloader.specs.Payload.{payloadsOf}
@@ -24,9 +25,13 @@ use Rattle.packing.specs.declared.Wait.the-variants as wait
 use Rattle.packing.specs.declared.Place.{Place}
 use Rattle.packing.specs.declared.Turn.{Turn}
 
--- the numbers of a list, and the bytes that are lent for a record: those of one with as long a payload as the output holds
-abbrev pub listNumbers : ℕ
-listNumbers = listRecords * planNumbers
+-- the numbers of the OBU list and of the plan list, and the bytes that are lent for a record: those of one with as long a payload as
+-- the output holds
+abbrev pub obuListNumbers : ℕ
+obuListNumbers = listRecords * obuNumbers
+
+abbrev pub planListNumbers : ℕ
+planListNumbers = listRecords * planNumbers
 
 abbrev pub recordRoom : ℕ
 recordRoom = trainHead .width + numberWidth + outputBytes
@@ -57,7 +62,7 @@ lengthTold p cut = says (awaits p wait.Nothing) (subject.Unit (p .count)) word.C
 
 -- the first of n packets of a unit of s bytes is next
 abbrev pub begins : ℕ → ℕ → Progress
-begins s n = record { unit = s; packets = n; packet = 0; from = 0 }
+begins s n = record { unit = s; packets = n; packet = 0 }
 
 -- after a unit of s bytes: its packets come, or the run stops
 abbrev pub unitTold : Place → ℕ → Unit′ → Told Place
@@ -70,14 +75,14 @@ abbrev pub stepIn : ℕ → ℕ → List ℕ → Unit′
 stepIn = unitIn (answerIn listRecords listRecords outputBytes)
 
 -- with these payloads left: the record of the first is written; or the next unit is read
-abbrev pub after : Progress → ℕ → Progress
-after g size = record { unit = g .unit; packets = g .packets; packet = g .packet + 1; from = g .from + size }
+abbrev pub after : Progress → Progress
+after g = record { unit = g .unit; packets = g .packets; packet = g .packet + 1 }
 
 abbrev pub leftTold : Place → Progress → List (List ℕ) → Told Place
 leftTold p g [] = asks (next p) [] unitWidth
 leftTold p g (x ∷ more) =
     asks
-    (record { wait = wait.Packets (after g (length x)); count = p .count; mtu = p .mtu; number = nextNumber (p .number) })
+    (record { wait = wait.Packets (after g); count = p .count; mtu = p .mtu; number = nextNumber (p .number) })
     (recordBytes (trainHead .width) (record { number = p .number; payload = x })) 0
 
 abbrev pub packetTold : Place → Progress → List (List ℕ) → Told Place
@@ -113,10 +118,6 @@ told p writeFailed input = says (awaits p wait.Nothing) (writtenOf (p .wait) (p 
 
 -- ---- what a step asks, and what it gives
 
--- the payloads of a unit that are not written yet, one after the other
-abbrev pub leftOf : ℕ → List ℕ → Progress → List ℕ
-leftOf mtu unit g = joined (drop (g .packet) (payloadsOf mtu unit))
-
 -- plan and output hold those of this unit
 pub record Ready (mtu : ℕ) (g : Progress) (unit plan out : List ℕ) : Type 0 where
   pub unit-is : length unit ≡ g .unit
@@ -125,8 +126,8 @@ pub record Ready (mtu : ℕ) (g : Progress) (unit plan out : List ℕ) : Type 0 
   pub packets-is : g .packets ≡ length (unitPlan mtu unit)
   pub plan-room : g .packets * planNumbers ≤ length plan
   pub plan-is : take (g .packets * planNumbers) plan ≡ flatPlan (unitPlan mtu unit)
-  pub out-room : g .from + length (leftOf mtu unit g) ≤ length out
-  pub out-is : take (length (leftOf mtu unit g)) (drop (g .from) out) ≡ leftOf mtu unit g
+  pub out-room : length (joined (payloadsOf mtu unit)) ≤ length out
+  pub out-is : take (length (joined (payloadsOf mtu unit))) out ≡ joined (payloadsOf mtu unit)
 
 -- a payload that is there, and space for its record, whose length field can state it
 pub record Recordable (payloads : List ℕ) (from size w : ℕ) (records : List ℕ) (at : ℕ) : Type 0 where
@@ -148,8 +149,8 @@ ReadyAt p input plan out = ReadyBy (p .wait) (p .mtu) input plan out
 -- what is lent to a step: exactly the stores of L12 to L14
 pub record Lent (p : Place) (c : Came) (input obus plan out written line : List ℕ) : Type 0 where
   pub input-is : length input ≡ unitStore
-  pub obus-is : length obus ≡ listNumbers
-  pub plan-is : length plan ≡ listNumbers
+  pub obus-is : length obus ≡ obuListNumbers
+  pub plan-is : length plan ≡ planListNumbers
   pub out-is : length out ≡ outputBytes
   pub written-is : length written ≡ recordRoom
   pub line-is : length line ≡ lineBytes

@@ -19,7 +19,7 @@ ghost use Rattle.payloader.specs.Payload.{payloadsOf};
 ghost use Rattle.turns.specs.Text.{lineBytes};
 ghost use Rattle.turns.specs.Orders.{arrival, says};
 ghost use Rattle.packing.specs.Pack.{unitStore, outputBytes, headIn, lengthIn};
-ghost use Rattle.packing.specs.Steps.{listNumbers, recordRoom, awaits, next, readOf, writtenOf, startsWith, headTold, lengthTold, unitTold, stepIn, packetTold, told, Ready, ReadyAt, Gives, Lent};
+ghost use Rattle.packing.specs.Steps.{obuListNumbers, planListNumbers, recordRoom, awaits, next, readOf, writtenOf, startsWith, headTold, lengthTold, unitTold, stepIn, packetTold, told, Ready, ReadyAt, Gives, Lent};
 
 // The bytes of a unit and of the output (L12, L14).
 pub const UNIT_STORE: usize = turns::UNIT_STORE;
@@ -27,7 +27,9 @@ pub const UNIT_STORE: usize = turns::UNIT_STORE;
 pub const OUTPUT_BYTES: usize = turns::OUTPUT_BYTES;
 
 // The numbers of each list, and the bytes of a record with as long a payload as the output holds.
-pub const LIST_NUMBERS: usize = turns::LIST_RECORDS * packetizer::PLAN_NUMBERS;
+pub const OBU_LIST_NUMBERS: usize = turns::LIST_RECORDS * obu::OBU_NUMBERS;
+
+pub const PLAN_LIST_NUMBERS: usize = turns::LIST_RECORDS * packetizer::PLAN_NUMBERS;
 
 pub const RECORD_BYTES: usize = train::LENGTH_WIDTH + train::NUMBER_WIDTH + OUTPUT_BYTES;
 
@@ -156,7 +158,7 @@ fn unit_step(
     out: &mut [u8],
     line: &mut [u8],
 ) -> Turn
-    requires { ⌜ (stated ≤ unitStore) × (length (now obus) ≡ listNumbers) × (length (now plan) ≡ listNumbers) × (length (now out) ≡ outputBytes) × (length (now line) ≡ lineBytes) ⌝ }
+    requires { ⌜ (stated ≤ unitStore) × (length (now obus) ≡ obuListNumbers) × (length (now plan) ≡ planListNumbers) × (length (now out) ≡ outputBytes) × (length (now line) ≡ lineBytes) ⌝ }
     ensures { λ r. ⌜ Gives (unitTold place stated (stepIn (place .mtu) stated (now (got .entry)))) r (now (line .entry)) (now (line .exit))
         × ReadyAt (r .place) (now (got .entry)) (now (plan .exit)) (now (out .exit)) ⌝ }
 {
@@ -171,7 +173,6 @@ fn unit_step(
                 unit: stated,
                 packets: packets,
                 packet: 0,
-                from: 0,
             };
             Turn {
                 place: awaiting(place, Wait::Packets(first)),
@@ -199,15 +200,15 @@ fn record_turn(
     let packets = progress.packets;
     let filled = packets * packetizer::PLAN_NUMBERS;
     let k = progress.packet;
-    let from = progress.from;
-    let size = unit::payload_size(&plan[..filled], k);
+    let p = packetizer::packet_at(&plan[..filled], k);
+    let from = p.payload_start as usize;
+    let size = p.packet_size as usize + 1;
     let width = train::LENGTH_WIDTH;
     let end = unit::put_record(out, from, size, width, place.number, written, 0);
     let after = Progress {
         unit: progress.unit,
         packets: packets,
         packet: k + 1,
-        from: from + size,
     };
     Turn {
         place: Place {

@@ -2,23 +2,21 @@
 use base::Refusal;
 use payloader::PayloadAnswer;
 ghost use mathlib.Core.Path.{_≡_};
-ghost use Prim.Native.Nat.{ℕ, _+_, _*_, _/_, _≤_};
-ghost use lib.ListN.{length, getD, take, drop};
+ghost use Prim.Native.Nat.{ℕ, _/_, _≤_};
+ghost use lib.ListN.{length, take, drop};
 ghost use Rattle.base.specs.Lists.{Put};
 ghost use Rattle.obu.specs.Records.{obuNumbers};
-ghost use Rattle.packetizer.specs.Records.{planNumbers, noPacket, packetsIn};
+ghost use Rattle.packetizer.specs.Records.{planNumbers};
 ghost use Rattle.train.specs.Train.{recordBytes};
 ghost use Rattle.packing.specs.Pack.{unitStore, answerIn, unitIn};
 ghost use Rattle.packing.specs.Paper.{paperUnit};
 ghost use Rattle.packing.specs.Steps.{begins, Ready, Recordable};
 
-// The packets of a unit that is packed: how many bytes it has, how many packets, which is the next to be written, and where its
-// payload stands in the output.
+// The packets of a unit that is packed: how many bytes it has, how many packets, and which is the next to be written.
 pub struct Progress {
     pub unit: usize,
     pub packets: usize,
     pub packet: usize,
-    pub from: usize,
 }
 
 // A unit is packed, into so many packets; or refused, or cut.
@@ -26,16 +24,6 @@ pub enum UnitAnswer {
     Packed(usize),
     Refused(Refusal),
     Cut,
-}
-
-// How many bytes payload k has.
-// Helper: the plan must have a whole record k.
-pub fn payload_size(plan: &[u32], k: usize) -> usize
-    requires { ⌜ (k + 1) * planNumbers ≤ length (now plan) ⌝ }
-    ensures { λ r. ⌜ r ≡ getD (packetsIn (now (plan .entry))) k noPacket .«packet_size» + 1 ⌝ }
-{
-    let p = packetizer::packet_at(plan, k);
-    p.packet_size as usize + 1
 }
 
 // Writes one record, with a length field of this width and a payload that stands at `from`, at the cursor `at`, and returns the cursor

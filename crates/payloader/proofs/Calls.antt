@@ -1,31 +1,27 @@
 -- The payload call, by what the plan call answers. Assumes nothing.
 use mathlib.Core.Path.{_≡_, refl, sym, ap, _∙_}
-use Prim.Native.Nat.{ℕ, suc, _*_, _/_, _≤_, _<_}
+use Prim.Native.Nat.{ℕ, _*_, _/_, _≤_, _<_}
 use native.Mathlib.Nat.{zero-add}
 use native.Mathlib.Omega.{arith}
-use mathlib.Core.List.{List, [], _∷_}
-use lib.ListN.{length, getD, length-map}
+use mathlib.Core.List.{List}
+use lib.ListN.{length, length-map}
 use lib.Seq.{sets, sets-eq}
 use lib.Dec.{ltb}
-use borrow.Author.Tests.{lt-ltb, le-ltb, ltb-true, ltb-false}
+use borrow.Author.Tests.{lt-ltb, le-ltb, ltb-false}
 use Rattle.base.specs.Answers.{Answer, given, refused, stored}
 use Rattle.base.specs.Lists.{front, joined}
 use Rattle.base.proofs.Tests.{split-on}
 use Rattle.obu.specs.Unit.{unitLimit, Placed, keptOf, obusOf, listAnswer}
 use Rattle.obu.specs.Records.{obuNumbers, flat}
-use Rattle.obu.specs.declared.Obu.{Obu}
 use Rattle.obu.specs.declared.Listed.{Listed}
-use Rattle.packetizer.specs.Call.{mtuLimit, sizesOf, unitPlan, toPlan, planned, planAnswer, planUnit}
+use Rattle.packetizer.specs.Call.{mtuLimit, unitPlan, toPlan, planned, planAnswer, planUnit}
 use Rattle.packetizer.specs.Call as call
-use Rattle.packetizer.specs.Records.{planNumbers, flatPlan, noPacket}
-use Rattle.packetizer.specs.declared.PacketMetadata.{PacketMetadata}
+use Rattle.packetizer.specs.Records.{planNumbers, flatPlan}
 use Rattle.packetizer.specs.declared.Planned.{Planned}
-use Rattle.packetizer.proofs.Turns.{plan-few}
-use Rattle.packetizer.proofs.Calls.{given-kept, kept-count, unit-small}
-use Rattle.payloader.specs.Payload.{plannedBytes, payloadsOf}
+use Rattle.packetizer.proofs.Calls.{given-kept}
+use Rattle.payloader.specs.Payload.{payloadsOf}
 use Rattle.payloader.specs.Call.{written, Inputs, toWrite, leaves, payloadAnswer, writeUnit}
 use Rattle.payloader.specs.declared.Payloads.{Payloads}
-use Rattle.payloader.proofs.Packets.{mtu-least, packet-sound}
 
 -- ---- what is known where the plan call answers with numbers
 
@@ -74,24 +70,6 @@ module _ (mtu : ℕ) (unit obus plan : List ℕ) (p : Planned) (e : given p ≡ 
       let z : _≡_ {A = ℕ} 0 1 = cc in
       absurd (omega arith))
       (λ t. by-list (ltb-false mtuLimit mtu t) (listAnswer unit obus) refl (rw t at e))
-
--- ---- the bytes of a plan are a number of 64 bits
-
-planned-most : (ps : List PacketMetadata) → ((k : ℕ) → k < length ps → getD ps k noPacket .«packet_size» ≤ 65535) → plannedBytes ps ≤ length ps * 65536
-unfolding plannedBytes
-planned-most [] h = omega arith
-planned-most (p ∷ ps) h = omega (arith, h 0 (omega arith), planned-most ps (λ k l. h (suc k) (omega arith)))
-
-pub planned-small : (mtu : ℕ) (unit : List ℕ) → length unit ≤ unitLimit → mtu ≤ mtuLimit → plannedBytes (unitPlan mtu unit) < 18446744073709551616
-planned-small mtu unit s m =
-    let most : plannedBytes (unitPlan mtu unit) ≤ length (unitPlan mtu unit) * 65536 =
-    planned-most (unitPlan mtu unit) (λ k h. omega (arith, packet-sound mtu unit k s h .most)) in
-    split-on (ltb 0 (length (unitPlan mtu unit)))
-    (λ t.
-    let h : 0 < length (unitPlan mtu unit) = ltb-true 0 (length (unitPlan mtu unit)) t in
-    let c : length (sizesOf unit) ≤ unitLimit = omega (arith, length-map (obusOf unit) (λ (o : Obu). o .size), length-map (keptOf unit) (λ (x : Placed). x .obu), kept-count unit) in
-    omega (arith, plan-few mtu (sizesOf unit) (mtu-least mtu unit 0 s h) (unit-small unit s) c))
-    (λ t. let h : length (unitPlan mtu unit) ≤ 0 = ltb-false 0 (length (unitPlan mtu unit)) t in omega arith)
 
 -- ---- the outcomes
 

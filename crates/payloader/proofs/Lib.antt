@@ -3,4 +3,5 @@ pub mod Parts
 pub mod Bodies
 pub mod Packets
 pub mod Totals
+pub mod Starts
 pub mod Calls

@@ -23,7 +23,8 @@ use Rattle.packetizer.specs.Records.{flatPlan, noPacket, packetsIn}
 use Rattle.packetizer.specs.declared.PacketMetadata.{PacketMetadata}
 use Rattle.packetizer.proofs.Planning.{plan-low}
 use Rattle.packetizer.proofs.Laws.{plan-sound}
-use Rattle.packetizer.proofs.Calls.{unit-small}
+use Rattle.packetizer.proofs.Calls.{unit-near}
+use Rattle.packetizer.proofs.UnitLaws.{unit-positive}
 use Rattle.packetizer.proofs.Turns.{size-at}
 use Rattle.packetizer.proofs.Records.{packets-flat}
 use Rattle.aggregation.specs.Header.{byteOf, headerOf}
@@ -48,7 +49,7 @@ module _ (mtu : ℕ) (unit : List ℕ) (k : ℕ) (small : length unit ≤ unitLi
       (λ t. let e : length (unitPlan mtu unit) ≡ 0 = ap length (plan-low mtu (sizesOf unit) (leb-false leastMtu mtu t)) in absurd (omega arith))
 
   pub packet-sound : Sound (mtu - 1) (sizesOf unit) packet
-  packet-sound = plan-sound mtu (sizesOf unit) mtu-least (λ j h. unit-small unit small j h .0) k there
+  packet-sound = plan-sound mtu (sizesOf unit) mtu-least (unit-positive unit) k there
 
   count : length (sizesOf unit) ≡ length (obusOf unit)
   count = length-map (obusOf unit) (λ (o : Obu). o .size)
@@ -56,7 +57,7 @@ module _ (mtu : ℕ) (unit : List ℕ) (k : ℕ) (small : length unit ≤ unitLi
   pub packet-header : headerOf (obusIn (flat (obusOf unit))) (packetsIn (flatPlan (unitPlan mtu unit))) k ≡ given (byteOf (obusOf unit) packet k)
   packet-header =
       alike (obusOf unit) (unitPlan mtu unit) k
-      ∙ header-given (obusOf unit) (unitPlan mtu unit) k there (packet-sound .some) (omega (arith, packet-sound .inside, count))
+      ∙ header-given (obusOf unit) (unitPlan mtu unit) k there (packet-sound .some) (omega (arith, packet-sound .inside, count)) (unit-near mtu unit k mtu-least small there)
 
   pub packet-headed : {obus plan : List ℕ} → Bytes unit → Lent mtu unit obus plan
       → headerOf (obusIn obus) (packetsIn plan) k ≡ given (byteOf (obusIn obus) (getD (packetsIn plan) k noPacket) k)

@@ -4,10 +4,10 @@ use Prim.Native.Nat.{ℕ, zero, suc, _+_, _-_, _≤_, _<_}
 use native.Mathlib.Nat.{add-zero}
 use native.Mathlib.Numerals.{add-one}
 use native.Mathlib.Omega.{arith}
-use mathlib.Core.List.{List, [], _++_, flatMap}
+use mathlib.Core.List.{List, [], _∷_, _++_, flatMap}
 use mathlib.Core.Bool.{Bool, true, false, cond}
-use lib.ListN.{length, getD, drop, length-append, length-map, drop-of-length-le}
-use lib.Seq.{drop-cons, sets}
+use lib.ListN.{length, getD, take, drop, length-append, length-map, drop-of-length-le}
+use lib.Seq.{drop-cons, take-suc, sets}
 use lib.Dec.{ltb, eqb}
 use borrow.Author.Tests.{ne-eqb}
 use Rattle.base.specs.Lists.{joined}
@@ -23,39 +23,27 @@ use Rattle.packetizer.specs.Fragment.{fieldSize}
 use Rattle.packetizer.specs.Plan.{mostCounted}
 use Rattle.packetizer.specs.Elements.{elementsFrom, elementsOf, elementBytes, fieldBytes}
 use Rattle.packetizer.specs.Call.{sizesOf, unitPlan, sizes}
-use Rattle.packetizer.specs.Laws.{Sound}
+use Rattle.packetizer.specs.Laws.{Sound, plannedBytes}
 use Rattle.packetizer.specs.Records.{noPacket}
 use Rattle.packetizer.specs.declared.PacketMetadata.{PacketMetadata}
 use Rattle.packetizer.proofs.Bodies.{elements-count}
 use Rattle.packetizer.proofs.Turns.{size-at}
-use Rattle.payloader.specs.Payload.{payloadAt, payloadsFrom, plannedBytes, payloadsOf}
+use Rattle.packetizer.proofs.Starts.{planned-append, plan-starts}
+use Rattle.payloader.specs.Payload.{payloadAt, startAt, payloadsFrom, payloadsOf}
 use Rattle.payloader.proofs.Bodies.{part, part-length, body, body-two, body-last}
 use Rattle.payloader.proofs.Packets.{packet-sound, payload-is}
 
--- ---- what a plan says, from packet k on
+-- ---- what a plan says, from packet k on, and before it
 
 bytes-step : (ps : List PacketMetadata) (k : ℕ) → k < length ps
     → plannedBytes (drop k ps) ≡ getD ps k noPacket .«packet_size» + 1 + plannedBytes (drop (k + 1) ps)
 unfolding plannedBytes
 bytes-step ps k h = rw (add-one k, drop-cons ps k noPacket h)
 
-pub record Adding (ps : List PacketMetadata) (bytes k : ℕ) : Type 0 where
-  pub inside : k ≤ length ps
-  pub whole : bytes + plannedBytes (drop k ps) ≡ plannedBytes ps
-
-pub adding-first : (ps : List PacketMetadata) → Adding ps 0 0
-adding-first ps = record { inside = omega arith; whole = omega arith }
-
-pub adding-next : (ps : List PacketMetadata) (bytes k : ℕ) → Adding ps bytes k → k < length ps
-    → Adding ps (bytes + (getD ps k noPacket .«packet_size» + 1)) (k + 1)
-adding-next ps bytes k a h = record { inside = omega arith; whole = omega (arith, a .whole, bytes-step ps k h) }
-
-pub adding-room : (ps : List PacketMetadata) (bytes k : ℕ) → Adding ps bytes k → k < length ps → bytes + (getD ps k noPacket .«packet_size» + 1) ≤ plannedBytes ps
-adding-room ps bytes k a h = omega (arith, a .whole, bytes-step ps k h)
-
-pub adding-last : (ps : List PacketMetadata) (bytes k : ℕ) → Adding ps bytes k → length ps ≤ k → bytes ≡ plannedBytes ps
+bytes-before : (ps : List PacketMetadata) (k : ℕ) → k < length ps
+    → plannedBytes (take (k + 1) ps) ≡ plannedBytes (take k ps) + (getD ps k noPacket .«packet_size» + 1)
 unfolding plannedBytes
-adding-last ps bytes k a h = omega (arith, a .whole, ap plannedBytes (drop-of-length-le ps h))
+bytes-before ps k h = rw (add-one k, take-suc ps k noPacket h, planned-append (take k ps) (getD ps k noPacket ∷ [])) (omega arith)
 
 -- ---- the elements of a record take what its packet size says
 
@@ -120,35 +108,6 @@ module _ (mtu : ℕ) (unit : List ℕ) where
   unfolding payloadsFrom flatMap
   rest-end k h = rw (drop-of-length-le (unitPlan mtu unit) h)
 
-  -- ---- what the loop over the packets keeps
-
-  pub record Sending (out₀ out : List ℕ) (k at : ℕ) : Type 0 where
-    pub inside : k ≤ length (unitPlan mtu unit)
-    pub storing : Storing out₀ 0 (rest 0) out at (rest k)
-
-  pub sending-first : (out : List ℕ) → Sending out out 0 0
-  sending-first out = record { inside = omega arith; storing = storing-first out 0 (rest 0) }
-
-  module _ (out₀ out : List ℕ) (k at : ℕ) (w : Sending out₀ out k at) (h : k < length (unitPlan mtu unit)) where
-    step-length : length (rest k) ≡ length (payloadAt mtu unit k) + length (rest (k + 1))
-    step-length = ap length (rest-step k h) ∙ length-append (payloadAt mtu unit k) (rest (k + 1))
-
-    pub sending-room : length (rest 0) ≤ length out₀ → at + length (payloadAt mtu unit k) ≤ length out
-    sending-room r = omega (arith, step-length, w .storing .ends, w .storing .same)
-
-    pub sending-next : (out′ : List ℕ) (at′ : ℕ) → at′ ≡ at + length (payloadAt mtu unit k)
-        → out′ ≡ sets out at (payloadAt mtu unit k) → Sending out₀ out′ (k + 1) at′
-    sending-next out′ at′ e r =
-        record {
-          inside = omega arith;
-          storing =
-              storing-next (payloadAt mtu unit k) (rest (k + 1)) (subst (Storing out₀ 0 (rest 0) out at) (rest-step k h) (w .storing))
-              (record { cursor = e; stored = r });
-        }
-
-  pub sending-last : (out₀ out : List ℕ) (k at : ℕ) → Sending out₀ out k at → length (unitPlan mtu unit) ≤ k → out ≡ sets out₀ 0 (rest 0)
-  sending-last out₀ out k at w h = storing-done (subst (Storing out₀ 0 (rest 0) out at) (rest-end k h) (w .storing)) .stored
-
 -- ---- a payload is a byte longer than its packet size (P13)
 
 module _ (mtu : ℕ) (unit : List ℕ) (small : length unit ≤ unitLimit) (bytes : Bytes unit) where
@@ -170,17 +129,57 @@ module _ (mtu : ℕ) (unit : List ℕ) (small : length unit ≤ unitLimit) (byte
       ap length (payload-is mtu unit k small there) ∙ omega (arith, b, paid)
 
   -- together they have as many bytes as the plan says
-  rest-length : (n k : ℕ) → k + n ≡ length (unitPlan mtu unit) → length (rest mtu unit k) ≡ plannedBytes (drop k (unitPlan mtu unit))
+  rest-counted : (n k : ℕ) → k + n ≡ length (unitPlan mtu unit) → length (rest mtu unit k) ≡ plannedBytes (drop k (unitPlan mtu unit))
   unfolding plannedBytes
-  rest-length zero k e =
+  rest-counted zero k e =
       let h : length (unitPlan mtu unit) ≤ k = omega arith in
       rw (rest-end mtu unit k h, drop-of-length-le (unitPlan mtu unit) h)
-  rest-length (suc n) k e =
+  rest-counted (suc n) k e =
       let h : k < length (unitPlan mtu unit) = omega arith in
       ap length (rest-step mtu unit k h)
       ∙ length-append (payloadAt mtu unit k) (rest mtu unit (k + 1))
-      ∙ ap₂ _+_ (payload-length k h) (rest-length n (k + 1) (omega arith))
+      ∙ ap₂ _+_ (payload-length k h) (rest-counted n (k + 1) (omega arith))
       ∙ sym (bytes-step (unitPlan mtu unit) k h)
 
+  pub rest-length : (k : ℕ) → k ≤ length (unitPlan mtu unit) → length (rest mtu unit k) ≡ plannedBytes (drop k (unitPlan mtu unit))
+  rest-length k h = rest-counted (length (unitPlan mtu unit) - k) k (omega arith)
+
   pub joined-length : length (joined (payloadsOf mtu unit)) ≡ plannedBytes (unitPlan mtu unit)
-  joined-length = rest-length (length (unitPlan mtu unit)) 0 (omega arith)
+  joined-length = rest-length 0 (omega arith)
+
+-- ---- what the loop over the packets keeps: payload k starts where its record says
+
+pub record Sending (mtu : ℕ) (unit out₀ out : List ℕ) (k : ℕ) : Type 0 where
+  pub inside : k ≤ length (unitPlan mtu unit)
+  pub storing : Storing out₀ 0 (rest mtu unit 0) out (plannedBytes (take k (unitPlan mtu unit))) (rest mtu unit k)
+
+pub sending-first : {mtu : ℕ} {unit out : List ℕ} → Sending mtu unit out out 0
+unfolding plannedBytes
+sending-first {mtu} {unit} {out} = record { inside = omega arith; storing = storing-first out 0 (rest mtu unit 0) }
+
+module _ {mtu : ℕ} {unit out₀ out : List ℕ} {k : ℕ} (w : Sending mtu unit out₀ out k) where
+  pub sending-last : length (unitPlan mtu unit) ≤ k → out ≡ sets out₀ 0 (rest mtu unit 0)
+  sending-last h = storing-done (subst (Storing out₀ 0 (rest mtu unit 0) out _) (rest-end mtu unit k h) (w .storing)) .stored
+
+  module _ (h : k < length (unitPlan mtu unit)) where
+    starts : startAt mtu unit k ≡ plannedBytes (take k (unitPlan mtu unit))
+    starts = plan-starts mtu (sizesOf unit) k h
+
+    pub sending-room : length (rest mtu unit 0) ≤ length out₀ → startAt mtu unit k + length (payloadAt mtu unit k) ≤ length out
+    sending-room r =
+        omega (arith, starts, ap length (rest-step mtu unit k h), length-append (payloadAt mtu unit k) (rest mtu unit (k + 1)), w .storing .ends, w .storing .same)
+
+    pub sending-next : length unit ≤ unitLimit → Bytes unit → {out′ : List ℕ} {at : ℕ} → at ≡ startAt mtu unit k → out′ ≡ sets out at (payloadAt mtu unit k)
+        → Sending mtu unit out₀ out′ (k + 1)
+    sending-next small bytes e r =
+        record {
+          inside = omega arith;
+          storing =
+              storing-next (payloadAt mtu unit k) (rest mtu unit (k + 1)) (subst (Storing out₀ 0 (rest mtu unit 0) out _) (rest-step mtu unit k h) (w .storing))
+              (record {
+                cursor =
+                    bytes-before (unitPlan mtu unit) k h
+                    ∙ ap (λ (n : ℕ). plannedBytes (take k (unitPlan mtu unit)) + n) (sym (payload-length mtu unit small bytes k h));
+                stored = r ∙ ap (λ (at : ℕ). sets out at (payloadAt mtu unit k)) (e ∙ starts);
+              });
+        }

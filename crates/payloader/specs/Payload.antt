@@ -41,14 +41,12 @@ unfoldable pub payloadsFrom : (ℕ → List ℕ) → List ℕ → List Obu → �
 payloadsFrom write unit obus k [] = []
 payloadsFrom write unit obus k (p ∷ ps) = payload write unit obus k p ∷ payloadsFrom write unit obus (k + 1) ps
 
--- P13: what a plan says they take together, a byte more than each packet size
-unfoldable pub plannedBytes : List PacketMetadata → ℕ
-plannedBytes [] = 0
-plannedBytes (p ∷ ps) = p .«packet_size» + 1 + plannedBytes ps
-
--- the payload of packet k of a unit, and all of them, with shortest size fields (F4)
+-- the payload of packet k of a unit with shortest size fields (F4), where it starts in the output (P16), and all of them
 abbrev pub payloadAt : ℕ → List ℕ → ℕ → List ℕ
 payloadAt mtu unit k = payload encode unit (obusOf unit) k (getD (unitPlan mtu unit) k noPacket)
+
+abbrev pub startAt : ℕ → List ℕ → ℕ → ℕ
+startAt mtu unit k = getD (unitPlan mtu unit) k noPacket .«payload_start»
 
 abbrev pub payloadsOf : ℕ → List ℕ → List (List ℕ)
 payloadsOf mtu unit = payloadsFrom encode unit (obusOf unit) 0 (unitPlan mtu unit)

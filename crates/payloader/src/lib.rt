@@ -14,7 +14,8 @@ ghost use Rattle.obu.specs.Header.{headerSize, cleared};
 ghost use Rattle.obu.specs.Wire.{extensionBytes, sent};
 ghost use Rattle.obu.specs.Laws.{Lies};
 ghost use Rattle.packetizer.specs.Records.{packetsIn};
-ghost use Rattle.payloader.specs.Payload.{payloadAt, plannedBytes, payloadsOf};
+ghost use Rattle.packetizer.specs.Laws.{Abut, plannedBytes};
+ghost use Rattle.payloader.specs.Payload.{payloadAt, payloadsOf};
 ghost use Rattle.payloader.specs.Call.{toWrite, leaves, writeUnit};
 ghost use Rattle.payloader.specs.Paper.{paper};
 ghost use Rattle.payloader.specs.Inside.{Lent, Writable};
@@ -132,33 +133,30 @@ fn write_packet(
     put_element(unit, o, from, n, field, out, cursor)
 }
 
-// How many bytes the payloads of a plan take together.
+// How many bytes the payloads of a plan take together: where the last one ends.
 fn planned_bytes(plan: &[u32]) -> usize
-    requires { ⌜ plannedBytes (packetsIn (now plan)) < 2 ^ 64 ⌝ }
+    requires { ⌜ Abut 0 (packetsIn (now plan)) (plannedBytes (packetsIn (now plan))) ⌝ }
     ensures { λ r. ⌜ r ≡ plannedBytes (packetsIn (now (plan .entry))) ⌝ }
 {
     let packets = plan.len() / packetizer::PLAN_NUMBERS;
-    let mut bytes: usize = 0;
-    let mut k: usize = 0;
-    while k < packets {
-        let p = packetizer::packet_at(plan, k);
-        bytes = bytes + (p.packet_size as usize + 1);
-        k += 1;
+    if packets == 0 {
+        return 0;
     }
-    bytes
+    let p = packetizer::packet_at(plan, packets - 1);
+    p.payload_start as usize + p.packet_size as usize + 1
 }
 
-// Writes all packets of a unit's plan, one after the other.
+// Writes all packets of a unit's plan, each where its record says that it starts.
 fn write_packets(mtu: usize, unit: &[u8], obus: &[u32], plan: &[u32], out: &mut [u8])
     requires { ⌜ Lent mtu (now unit) (now obus) (now plan) ⌝ }
     requires { ⌜ length (joined (payloadsOf mtu (now unit))) ≤ length (now out) ⌝ }
     ensures { λ _. ⌜ now (out .exit) ≡ sets (now (out .entry)) 0 (joined (payloadsOf mtu (now (unit .entry)))) ⌝ }
 {
     let packets = plan.len() / packetizer::PLAN_NUMBERS;
-    let mut at: usize = 0;
     let mut k: usize = 0;
     while k < packets {
-        at = write_packet(mtu, unit, obus, plan, k, out, at);
+        let p = packetizer::packet_at(plan, k);
+        write_packet(mtu, unit, obus, plan, k, out, p.payload_start as usize);
         k += 1;
     }
 }

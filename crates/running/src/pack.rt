@@ -6,7 +6,9 @@ ghost use Rattle.packing.specs.Steps.{Goes};
 // What a step is lent (L12 to L14).
 const INPUT: usize = packing::UNIT_STORE;
 
-const LIST: usize = packing::LIST_NUMBERS;
+const OBUS: usize = packing::OBU_LIST_NUMBERS;
+
+const PLAN: usize = packing::PLAN_LIST_NUMBERS;
 
 const OUT: usize = packing::OUTPUT_BYTES;
 
@@ -19,8 +21,8 @@ fn next(
     turn: Turn,
     streams: Streams,
     input: &mut [u8; INPUT],
-    obus: &mut [u32; LIST],
-    plan: &mut [u32; LIST],
+    obus: &mut [u32; OBUS],
+    plan: &mut [u32; PLAN],
     out: &mut [u8; OUT],
     written: &mut [u8; WRITTEN],
     line: &mut [u8; LINE],
@@ -35,8 +37,8 @@ fn next(
 // All turns. Nothing says that the input ends, so they are counted down from a number that no run uses up.
 pub fn run(streams: Streams) {
     let mut input = [0u8; INPUT];
-    let mut obus = [0u32; LIST];
-    let mut plan = [0u32; LIST];
+    let mut obus = [0u32; OBUS];
+    let mut plan = [0u32; PLAN];
     let mut out = [0u8; OUT];
     let mut written = [0u8; WRITTEN];
     let mut line = [0u8; LINE];

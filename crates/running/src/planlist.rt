@@ -8,7 +8,9 @@ const INPUT: usize = listing::UNIT_STORE;
 
 const UNIT: usize = listing::UNIT_STORE;
 
-const LIST: usize = listing::LIST_NUMBERS;
+const OBUS: usize = listing::OBU_LIST_NUMBERS;
+
+const PLAN: usize = listing::PLAN_LIST_NUMBERS;
 
 const LINE: usize = turns::LINE_BYTES;
 
@@ -18,8 +20,8 @@ fn next(
     streams: Streams,
     input: &mut [u8; INPUT],
     unit: &mut [u8; UNIT],
-    obus: &mut [u32; LIST],
-    plan: &mut [u32; LIST],
+    obus: &mut [u32; OBUS],
+    plan: &mut [u32; PLAN],
     out: &mut [u8; LINE],
     line: &mut [u8; LINE],
 ) -> Turn
@@ -34,8 +36,8 @@ fn next(
 pub fn run(streams: Streams) {
     let mut input = [0u8; INPUT];
     let mut unit = [0u8; UNIT];
-    let mut obus = [0u32; LIST];
-    let mut plan = [0u32; LIST];
+    let mut obus = [0u32; OBUS];
+    let mut plan = [0u32; PLAN];
     let mut out = [0u8; LINE];
     let mut line = [0u8; LINE];
     let mut turn = listing::start();

@@ -18,7 +18,7 @@ ghost use Rattle.io.specs.Counts.{Counts};
 // One byte more than the longest unit, the longest lists, and the longest output.
 const UNIT_STORE: usize = 1048577;
 
-const LIST_STORE: usize = 20480;
+const LIST_STORE: usize = 24576;
 
 const OUTPUT_STORE: usize = 262144;
 

@@ -47,6 +47,7 @@ pub fn ample(unit: &[u8], mtu: usize) -> Result<Vec<Vec<u8>>, av1rtp::Refusal> {
     let mut rest = &out[..written.bytes];
     let mut payloads = Vec::new();
     for record in plan.chunks(lent::PLAN_NUMBERS).take(written.packets) {
+        assert_eq!(record[5] as usize, written.bytes - rest.len());
         let (payload, after) = rest.split_at(record[4] as usize + 1);
         payloads.push(payload.to_vec());
         rest = after;

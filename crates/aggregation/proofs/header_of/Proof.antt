@@ -73,7 +73,7 @@ use Rattle.aggregation.proofs.header_of.Code as code
 use Rattle.aggregation.proofs.header_of.Code.Mir as body
 
 -- a record's place fits a usize, since the whole slice has room
-packet-fits : (n k : ℕ) → k < n → n * 20 < 2 ^ 63 → k * 20 < 2 ^ 64
+packet-fits : (n k : ℕ) → k < n → n * 24 < 2 ^ 63 → k * 24 < 2 ^ 64
 packet-fits n k l r = omega arith
 
 obu-fits : (n i : ℕ) → i < n → n * 16 < 2 ^ 63 → i * 16 < 2 ^ 64
@@ -183,11 +183,11 @@ module _ {M : Type 1} (𝓤 : URA M) (H : Heap 𝓤) (A : Atoms 𝓤) (W : Given
         free-all 𝓤 H W _ (holds _ ∷ holds _ ∷ holds _ ∷ holds _ ∷ empty ∷ empty ∷ holds _ ∷ holds _ ∷ holds _ ∷ []) Had
         (by ! (exits none (only none-vals) none-is (none-there os ps k (leb→le _ _ big)))))
         (λ small. skips ! $ goes-on ! C Λ (E (l₀ ∷ l₁ ∷ l₂ ∷ l₃ ∷ l₄ ∷ l₅ ∷ l₆ ∷ l₇ ∷ l₈ ∷ l₉ ∷ l₁₀ ∷ l₁₁ ∷ l₁₂ ∷ l₁₃ ∷ l₁₄ ∷ l₁₅ ∷ [])) body.t-4 Post $
-        -- _6 = k * 20; _9 = the place of packets[k]
+        -- _6 = k * 24; _9 = the place of packets[k]
         puts ! (bin ! (var ! 10 refl) (lit ! tt) (record { fits = packet-fits _ k (nleb→lt _ _ small) (gp .1) }))
         (store ! 16 refl (tt, record { fits = packet-fits _ k (nleb→lt _ _ small) (gp .1) })) $
         puts ! (bin ! (member ! 8 0 refl (sub ! 0 refl (whole !))) (var ! 16 refl) tt) (init ! 22 refl (tt, tt)) $
-        rewrite ! 22 (λ (o : ℕ). ‵ (fat fullShare tyPtr l₉ 0 (vptr (xp .ptr .0) o))) (sym (place-is 20 (xp .ptr .1) k)) refl $
+        rewrite ! 22 (λ (o : ℕ). ‵ (fat fullShare tyPtr l₉ 0 (vptr (xp .ptr .0) o))) (sym (place-is 24 (xp .ptr .1) k)) refl $
         -- _10 = packets[k]; _4 = _10
         move ! (3 ∷ 2 ∷ []) $ rec-open ! tt P.the-type P′.the-laws P′.the-copy (named 1) xp k noPacket (nleb→lt _ _ small) (λ s is.
         puts ! (of-opd ! (load ! (from ! (hop ! (look ! 23 refl) (stop !))) (look-raw ! 0 refl))) (init ! 25 refl (packet-typed p (pvals p) is .0)) $

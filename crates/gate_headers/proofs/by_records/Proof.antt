@@ -37,6 +37,9 @@ a-packet-requires-6 c κs = search needs
 a-packet-requires-7 : tie.Need-a-packet-requires-7
 a-packet-requires-7 c κs = search needs
 
+a-packet-requires-8 : tie.Need-a-packet-requires-8
+a-packet-requires-8 c κs = search needs
+
 header-in-requires : tie.Need-header-in-requires
 header-in-requires c κs = search needs
 
@@ -46,7 +49,7 @@ code-requires c κs = search needs
 returns : tie.Need-returns
 unfolding ofRecords
 returns c =
-    let d = c .before .before .before .before .before .before .before .before in
+    let d = c .before .before .before .before .before .before .before .before .before in
     c .code .ensures ∙ ap codeOf (c .before .header-in .ensures)
     ∙ simp (
       d .before .before .before .before .an-obu .ensures,
@@ -54,12 +57,13 @@ returns c =
       d .before .before .an-obu3 .ensures,
       d .before .an-obu4 .ensures,
       d .a-packet .ensures,
-      c .before .before .before .before .before .before .before .a-packet2 .ensures,
-      c .before .before .before .before .before .before .a-packet3 .ensures,
-      c .before .before .before .before .before .a-packet4 .ensures,
-      c .before .before .before .before .a-packet5 .ensures,
-      c .before .before .before .a-packet6 .ensures,
-      c .before .before .a-packet7 .ensures,
+      c .before .before .before .before .before .before .before .before .a-packet2 .ensures,
+      c .before .before .before .before .before .before .before .a-packet3 .ensures,
+      c .before .before .before .before .before .before .a-packet4 .ensures,
+      c .before .before .before .before .before .a-packet5 .ensures,
+      c .before .before .before .before .a-packet6 .ensures,
+      c .before .before .before .a-packet7 .ensures,
+      c .before .before .a-packet8 .ensures,
     )
 
 pub by-records-spec : {M : Type 1} → statement M
@@ -77,6 +81,7 @@ by-records-spec =
     a-packet-requires-5
     a-packet-requires-6
     a-packet-requires-7
+    a-packet-requires-8
     header-in-requires
     code-requires
     returns)

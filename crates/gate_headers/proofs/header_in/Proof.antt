@@ -68,7 +68,7 @@ abbrev Os : RattleType
 Os = Array O.the-row 4
 
 abbrev Ps : RattleType
-Ps = Array P.the-row 7
+Ps = Array P.the-row 8
 
 abbrev stayed : Stays (f.ended .signature .params) (f.ended .kept)
 stayed = (stay-none (λ _. Os) yes, (stay-none (λ _. Ps) yes, (stay-none (λ _. usize) yes, tt)))
@@ -137,7 +137,7 @@ module _
     xo l γ = ref O.the-type 4 l os γ
 
     abbrev xp : ℕ → GName → RefT (List PacketMetadata)
-    xp l γ = ref P.the-type 7 l ps γ
+    xp l γ = ref P.the-type 8 l ps γ
 
     room-o : Room O.the-row (length os)
     room-o = subst (Room O.the-row) (sym (io .1 .0 .1)) (lit< tt, lit< tt)
@@ -150,14 +150,14 @@ module _
     obus-typed = array-lawful 𝓤 H A W O.the-row (LL.lawful O.the-type O′.the-laws 𝓤 H A W) 4 .typed os _ io
 
     packets-typed : Typed (Ps .mir) (vp ∷ [])
-    packets-typed = array-lawful 𝓤 H A W P.the-row (LL.lawful P.the-type P′.the-laws 𝓤 H A W) 7 .typed ps _ ip
+    packets-typed = array-lawful 𝓤 H A W P.the-row (LL.lawful P.the-type P′.the-laws 𝓤 H A W) 8 .typed ps _ ip
 
     exits : (r : HeaderAnswer) (u : Val) → Is R.the-row r (u ∷ []) → paper r ≡ headerOf os ps k → ent 𝓤 (emp 𝓤) (Post u)
     exits r u is e =
         qed W [] ∵ suffices ! _ (ends-at 𝓤 H A f.ended stayed (f.clauses 𝓤 H A mem run) W bound u r (tt, (tt, (tt, tt))) (tt, (tt, (tt, tt)))) $
         says ! e $ owned ! R.the-row (Is R.the-row) (EL.makes R.the-type R′.the-plain 𝓤 H A) r _ is $
         nothing ! $ owned ! usize (Is usize) (uint-makes 𝓤 H A W w64) k _ (refl, gk) $ fjoin ! $
-        owned ! Ps (Is Ps) (array-makes 𝓤 H A W P.the-row (LL.makes P.the-type P′.the-plain 𝓤 H A) 7) ps (vp ∷ []) ip $ fjoin ! $
+        owned ! Ps (Is Ps) (array-makes 𝓤 H A W P.the-row (LL.makes P.the-type P′.the-plain 𝓤 H A) 8) ps (vp ∷ []) ip $ fjoin ! $
         owned ! Os (Is Os) (array-makes 𝓤 H A W O.the-row (LL.makes O.the-type O′.the-plain 𝓤 H A) 4) os (vo ∷ []) io $ fjoin ! $ nothing ! $ done !
 
     module _ (C : Calls 𝓤 H) (Λ : Loops 𝓤 H) (fm : FmC 𝓤 H (W .laws) C) (known : Triple 𝓤 (C #header-of) (HeaderOf 𝓤 H A mem run)) where
@@ -185,8 +185,8 @@ module _
           (lends-local O.the-type 4 l₄ os 𝓤 H A W O′.the-plain tt (named 0) (α ∷ []) vo io room-o) $ await ! tt $ pick ! (λ γ. split ! $
           -- [So; what α's lender has; β; α; _0; …; _3; …; _4's; _5; …]
           move ! (13 ∷ []) $
-          use1 W (later (some (λ (δ : GName). ‵ (Sp 𝓤 H A mem run W (α ∷ []) (β ∷ []) (xo l₄ γ) (xp l₅ δ) k gk) ⊛ ‵ (flent (β ∷ []) (Row P.the-type 7 l₅ ps)))))
-          (lends-local P.the-type 7 l₅ ps 𝓤 H A W P′.the-plain tt (named 1) (β ∷ []) vp ip room-p) $ await ! tt $ pick ! (λ δ. split ! $
+          use1 W (later (some (λ (δ : GName). ‵ (Sp 𝓤 H A mem run W (α ∷ []) (β ∷ []) (xo l₄ γ) (xp l₅ δ) k gk) ⊛ ‵ (flent (β ∷ []) (Row P.the-type 8 l₅ ps)))))
+          (lends-local P.the-type 8 l₅ ps 𝓤 H A W P′.the-plain tt (named 1) (β ∷ []) vp ip room-p) $ await ! tt $ pick ! (λ δ. split ! $
           -- [Sp; what β's lender has; So; what α's lender has; β; α; _0; …]
           move ! (5 ∷ 2 ∷ []) $ join ! $ move ! (4 ∷ 1 ∷ []) $ join ! $
           use2 W (raw (HeaderOf 𝓤 H A mem run .pre (to 𝓤 H A mem run W (α ∷ []) (β ∷ []) (xo l₄ γ) (xp l₅ δ) k gk)))
@@ -204,7 +204,7 @@ module _
           split3 ! $ lft-end ! tt $ move ! (0 ∷ 4 ∷ []) $ lent-back ! tt $
           use1 W (‵ (froom (LocalTy O.the-type 4 l₄ os) l₄ 0)) (room-back O.the-type 4 l₄ os 𝓤 H A W (io .1 .0 .1)) $
           move ! (1 ∷ []) $ lft-end ! tt $ move ! (0 ∷ 3 ∷ []) $ lent-back ! tt $
-          use1 W (‵ (froom (LocalTy P.the-type 7 l₅ ps) l₅ 0)) (room-back P.the-type 7 l₅ ps 𝓤 H A W (ip .1 .0 .1)) $
+          use1 W (‵ (froom (LocalTy P.the-type 8 l₅ ps) l₅ 0)) (room-back P.the-type 8 l₅ ps 𝓤 H A W (ip .1 .0 .1)) $
           -- [_5's room; _4's room; true; _0; …; _3; …; _4's; _5's; _6; …]
           move ! (upFrom 3 8 ++ (1 ∷ 11 ∷ 0 ∷ 12 ∷ []) ++ upFrom 13 8) $ returns ! (look ! 0 refl) $
           free-all 𝓤 H W _ (holds _ ∷ holds _ ∷ holds _ ∷ holds _ ∷ empty ∷ empty ∷ holds _ ∷ holds _ ∷ holds _ ∷ holds _ ∷ []) (‵ ftrue ∷ [])
@@ -218,7 +218,7 @@ module _ {M : Type 1} (𝓤 : URA M) (H : Heap 𝓤) (A : Atoms 𝓤) (W : Given
       (λ κs. (array-vals (LL.vals O.the-type O′.the-laws), (array-vals (LL.vals P.the-type P′.the-laws), (uint-vals w64, tt))))
       (λ κs. (
         array-tells O.the-row (LL.vals O.the-type O′.the-laws) (LL.tells O.the-type O′.the-laws) 4,
-        (array-tells P.the-row (LL.vals P.the-type P′.the-laws) (LL.tells P.the-type P′.the-laws) 7, (uint-tells w64, tt)),
+        (array-tells P.the-row (LL.vals P.the-type P′.the-laws) (LL.tells P.the-type P′.the-laws) 8, (uint-tells w64, tt)),
       ))
       (λ κs qs bounds a g are.
       via 𝓤 _ (fst∗ 𝓤 _ (emp 𝓤)) (walk 𝓤 H A W mem run (a .0) (a .1 .0) (a .1 .1 .0) _ _ (are .0) (are .1 .0) (are .1 .1 .0 .1) C Λ fm known))

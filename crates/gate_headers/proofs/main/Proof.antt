@@ -38,6 +38,10 @@ row-requires-8 : tie.Need-row-requires-8
 unfolding headerOf byteOf nOf recordsFrom ofRecords ofNumbers
 row-requires-8 c κs = (refl, refl)
 
+row-requires-9 : tie.Need-row-requires-9
+unfolding headerOf byteOf nOf recordsFrom ofRecords ofNumbers
+row-requires-9 c κs = (refl, refl)
+
 returns : tie.Need-returns
 returns c = search needs
 
@@ -53,4 +57,5 @@ main-spec =
     row-requires-6
     row-requires-7
     row-requires-8
+    row-requires-9
     returns)

@@ -49,9 +49,18 @@ mul-t20 c = search needs
 shared-slice-read-t22 : tie.Need-shared-slice-read-t22
 shared-slice-read-t22 c = search needs
 
+add-t23 : tie.Need-add-t23
+add-t23 c = search needs
+
+mul-t24 : tie.Need-mul-t24
+mul-t24 c = search needs
+
+shared-slice-read-t26 : tie.Need-shared-slice-read-t26
+shared-slice-read-t26 c = search needs
+
 returns : tie.Need-returns
 returns c =
-    let a = c .before .before .before .before .before .args in
+    let a = c .before .before .before .before .before .before .args in
     packet-in (a .plan .now) (a .k) (omega arith)
 
 pub packet-at-spec : {M : Type 1} → statement M
@@ -73,4 +82,7 @@ packet-at-spec =
     add-t19
     mul-t20
     shared-slice-read-t22
+    add-t23
+    mul-t24
+    shared-slice-read-t26
     returns)

@@ -2,19 +2,22 @@ use mathlib.Core.Path.{_≡_, refl, sym, ap, _∙_}
 use Prim.Native.Nat.{ℕ, _-_, _*_, _≤_, _<_}
 use native.Mathlib.Omega.{arith}
 use borrow.Author.Needs.{needs}
+use mathlib.Core.Bool.{true}
 use mathlib.Core.List.{List, []}
 use lib.ListN.{length, getD}
 use Rattle.obu.specs.Unit.{unitLimit}
 use Rattle.obu.specs.Records.{obusIn}
 use Rattle.obu.specs.declared.Obu.{Obu}
-use Rattle.packetizer.specs.Plan.{newPacket, planFrom, planOf}
+use Rattle.packetizer.specs.Plan.{leastMtu, startLimit, planOf}
 use Rattle.packetizer.specs.Call.{sizes}
 use Rattle.packetizer.specs.Paper.{recorded}
-use Rattle.packetizer.specs.Laws.{Positive}
+use Rattle.packetizer.specs.Records.{planNumbers}
+use Rattle.packetizer.specs.Laws.{plannedBytes}
 use Rattle.packetizer.specs.declared.PacketMetadata.{PacketMetadata}
 use Rattle.packetizer.proofs.Stores.{recorded-none}
 use Rattle.packetizer.proofs.Planning.{plan-none, plan-low, plan-some}
-use Rattle.packetizer.proofs.Turns.{sizes-count, size-at, small-positive, plan-few, current-held, Placing, placing-first, placing-room, placing-next, placing-count, placing-end}
+use Rattle.packetizer.proofs.Totals.{total-each, total-count, plan-short, plan-bytes}
+use Rattle.packetizer.proofs.Turns.{sizes-count, size-at, current-held, wholePlan, Placing, placing-first, placing-asks, placing-next, placing-count, placing-end}
 use Rattle.packetizer.proofs.packetize.Statement.{statement}
 use Rattle.packetizer.proofs.packetize.Tie as tie
 
@@ -45,9 +48,6 @@ looped c = c .before .before .before .before .before
 abbrev of : tie.Start Inv-loop μ-loop → List ℕ
 of c = sizes (obusIn (c .args .obus .now))
 
-positive : (c : tie.Start Inv-loop μ-loop) → Positive (of c)
-positive c = small-positive (of c) (c .pre .small)
-
 -- nothing is planned
 none : (c : tie.Start Inv-loop μ-loop) → planOf (c .args .mtu) (of c) ≡ []
     → (0 ≡ length (planOf (c .args .mtu) (of c))) × (c .args .plan .now ≡ recorded (c .args .store) (c .args .plan .now) 0 (planOf (c .args .mtu) (of c)))
@@ -55,18 +55,29 @@ none c e = rw e (refl, recorded-none (c .args .store) (c .args .plan .now) 0)
 
 -- the plan, where there is one
 abbrev planned : tie.Start Inv-loop μ-loop → List PacketMetadata
-planned c = planFrom (c .args .mtu - 1) 0 (of c) (newPacket 0)
+planned c = wholePlan (c .args .mtu - 1) (of c)
 
 some : (c : tie.Else2 Inv-loop μ-loop) → planOf (start c .args .mtu) (of (start c)) ≡ planned (start c)
 some c =
     plan-some (start c .args .mtu) (of (start c)) (omega (arith, c .if2 .left))
     (λ e. c .before .if1 .left (sym (sizes-count (start c .args .obus .now)) ∙ e))
 
--- and it is not long
-few : (c : tie.Else2 Inv-loop μ-loop) → length (planned (start c)) ≤ unitLimit * unitLimit
+-- it is not long, its payloads do not take much, and where its records are stored there is room for them
+least : (c : tie.Else2 Inv-loop μ-loop) → leastMtu ≤ start c .args .mtu
+least c = omega (arith, c .if2 .left)
+
+few : (c : tie.Else2 Inv-loop μ-loop) → length (planned (start c)) ≤ unitLimit
 few c =
     let p = start c .pre in
-    omega (arith, ap length (some c), plan-few (start c .args .mtu) (of (start c)) (omega (arith, c .if2 .left)) (p .small) (p .few))
+    omega (arith, ap length (some c), plan-short (start c .args .mtu) (of (start c)) (least c) (p .some), p .total)
+
+near : (c : tie.Else2 Inv-loop μ-loop) → plannedBytes (planned (start c)) ≤ startLimit
+near c =
+    let p = start c .pre in
+    omega (arith, ap plannedBytes (some c), plan-bytes (start c .args .mtu) (of (start c)) (least c) (p .some), p .total)
+
+room : (c : tie.Else2 Inv-loop μ-loop) → start c .args .store ≡ true → length (planned (start c)) * planNumbers ≤ length (start c .args .plan .now)
+room c w = omega (arith, start c .pre .room w, ap length (some c))
 
 -- an OBU that is placed, and its size
 inside : (c : tie.In-loop Inv-loop μ-loop) → c .before .loop .i < length (of (start (planning (c .before))))
@@ -98,26 +109,25 @@ new-packet-requires : tie.Need-new-packet-requires Inv-loop μ-loop
 new-packet-requires c κs = search needs
 
 loop-holds : tie.Need-loop-holds Inv-loop μ-loop
-loop-holds c = placing-first _ _ _ _ _ (c .new-packet .ensures)
+loop-holds c = placing-first (c .new-packet .ensures)
 
 obu-at-requires : tie.Need-obu-at-requires Inv-loop μ-loop
 obu-at-requires c κs = search needs
 
 cast-place-obu : tie.Need-cast-place-obu Inv-loop μ-loop
-cast-place-obu c = omega (arith, start (planning (turn c .before)) .pre .few, inside (turn c))
+cast-place-obu c =
+    let s = start (planning (turn c .before)) in
+    omega (arith, s .pre .total, total-count (of s) (s .pre .some), inside (turn c))
 
 place-obu-requires : tie.Need-place-obu-requires Inv-loop μ-loop
 place-obu-requires c κs =
     let v = turn c .before .loop in
     let p = planning (turn c .before) in
     let l = inside (turn c) in
-    let r = placing-room _ _ _ _ _ _ _ _ (v .inv) l in
+    let s = start p .pre in
     rw (size (c .before)) (
-      omega (arith, current-held _ _ _ _ (v .inv .current), start p .pre .small (v .i) l, start p .pre .most, p .if2 .left),
-      (
-        omega (arith, few p, r),
-        λ w. omega (arith, start p .pre .room w, ap length (some p), r, v .inv .kept),
-      ),
+      omega (arith, current-held _ _ _ _ (v .inv .current), s .some (v .i) l, total-each (of (start p)) (v .i) l, s .total, s .most, least p),
+      placing-asks (v .inv) l (few p) (near p) (room p),
     )
 
 add-i : tie.Need-add-i Inv-loop μ-loop
@@ -130,19 +140,19 @@ loop-again : tie.Need-loop-again Inv-loop μ-loop
 loop-again c =
     let a = placed c .before in
     let p = planning (turn a .before) in
-    placing-next _ _ _ _ _ _ _ _ (turn a .before .loop .inv) _ _ _ _ (size (a .before)) (omega (arith, p .if2 .left)) (positive (start p)) (inside (turn a))
+    placing-next (turn a .before .loop .inv) (size (a .before)) (omega (arith, least p)) (start p .pre .some) (inside (turn a))
     (placed c .place-obu .kept .0) (placed c .place-obu .ensures)
 
 put-record-requires : tie.Need-put-record-requires Inv-loop μ-loop
 put-record-requires c κs = λ w.
     let v = c .before .before .loop .inv in
     let p = planning (c .before .before) in
-    omega (arith, start p .pre .room w, ap length (some p), placing-count _ _ _ _ _ _ _ _ v (ended (c .before)), v .kept)
+    omega (arith, room p w, placing-count v (ended (c .before)), v .kept)
 
 add-result : tie.Need-add-result Inv-loop μ-loop
 add-result c =
     let l = looped c in
-    omega (arith, few (planning (l .before)), placing-count _ _ _ _ _ _ _ _ (l .before .loop .inv) (ended l))
+    omega (arith, few (planning (l .before)), placing-count (l .before .loop .inv) (ended l))
 
 same-length : tie.Need-same-length Inv-loop μ-loop
 same-length c = search needs
@@ -152,8 +162,8 @@ returns-3 c =
     let l = looped c in
     let a = start (planning (l .before)) .args in
     let e = sym (some (planning (l .before))) in (
-      placing-count _ _ _ _ _ _ _ _ (l .before .loop .inv) (ended l) ∙ ap length e,
-      placing-end _ _ _ _ _ _ _ _ (l .before .loop .inv) _ (ended l) (c .before .before .before .put-record .ensures)
+      placing-count (l .before .loop .inv) (ended l) ∙ ap length e,
+      placing-end (l .before .loop .inv) (ended l) (c .before .before .before .put-record .ensures)
           ∙ ap (recorded (a .store) (a .plan .now) 0) e,
     )
 

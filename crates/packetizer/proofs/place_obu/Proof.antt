@@ -1,81 +1,96 @@
 use mathlib.Core.Path.{_≡_, refl, sym, ap, _∙_}
 use native.Mathlib.Omega.{arith}
-use lib.ListN.{length}
-use Rattle.packetizer.specs.Plan.{Placing, newPacket, closing, insert, place}
+use Rattle.packetizer.specs.Plan.{newPacket, startAfter, closing, insert, place}
 use Rattle.packetizer.specs.declared.PacketMetadata.{PacketMetadata}
 use Rattle.packetizer.proofs.Steps.{charge-none}
-use Rattle.packetizer.proofs.Placing.{place-new, place-on, one-more, closing-count, closing-stored}
+use Rattle.packetizer.proofs.Starts.{insert-lined}
+use Rattle.packetizer.proofs.Placing.{place-new, place-on, one-more, closing-room, closing-near, closing-asks, closing-stored}
 use borrow.Author.Needs.{needs}
 use Rattle.packetizer.proofs.place_obu.Statement.{statement}
 use Rattle.packetizer.proofs.place_obu.Tie as tie
 
--- the packet is full
+-- ---- the places: the packet is full, or is not; its record is stored; where the next packet starts, and that packet
+
+abbrev start : tie.After-is-full → tie.Start
+start c = c .before .before
+
+abbrev stored : tie.After-slice-known2 → tie.After-put-record
+stored c = c .before .before
+
+abbrev filled : tie.After-slice-known2 → tie.Then1
+filled c = stored c .before .before
+
+abbrev begun : tie.After-new-packet → tie.After-start-after
+begun c = c .before .before
+
+-- the packet is full, and q is the next one
 full :
-    (c : tie.Then1) (q : PacketMetadata) → q ≡ newPacket (c .before .before .before .args .i) →
-    place (c .before .before .before .args .room) (c .before .before .before .args .i) (c .before .before .before .args .size) (c .before .before .before .args .f .packet)
-    ≡ closing (c .before .before .before .args .f .packet) (insert (c .before .before .before .args .room) (c .before .before .before .args .i) (c .before .before .before .args .size) q)
-full c q e = place-new (c .before .before .before .args .room) (c .before .before .before .args .i) (c .before .before .before .args .size) (c .before .before .before .args .f .packet) q e (sym (c .before .is-full .ensures) ∙ c .if1 .taken)
+    (c : tie.Then1) (q : PacketMetadata) →
+    let a = start (c .before) .args in
+    q ≡ newPacket (a .i) (startAfter (a .f .packet)) → place (a .room) (a .i) (a .size) (a .f .packet) ≡ closing (a .f .packet) (insert (a .room) (a .i) (a .size) q)
+full c q e = let a = start (c .before) .args in place-new (a .room) (a .i) (a .size) (a .f .packet) q e (sym (c .before .is-full .ensures) ∙ c .if1 .taken)
+
+-- that packet is new
+new :
+    (c : tie.After-new-packet) →
+    let a = start (filled (begun c .before) .before) .args in
+    c .new-packet .result ≡ newPacket (a .i) (startAfter (a .f .packet))
+new c =
+    let a = start (filled (begun c .before) .before) .args in
+    c .new-packet .ensures ∙ ap (newPacket (a .i)) (begun c .start-after .ensures)
 
 -- it is not
 on :
     (c : tie.Else1) →
-    place (c .before .before .before .args .room) (c .before .before .before .args .i) (c .before .before .before .args .size) (c .before .before .before .args .f .packet)
-    ≡ insert (c .before .before .before .args .room) (c .before .before .before .args .i) (c .before .before .before .args .size) (c .before .before .before .args .f .packet)
-on c = place-on (c .before .before .before .args .room) (c .before .before .before .args .i) (c .before .before .before .args .size) (c .before .before .before .args .f .packet) (sym (c .before .is-full .ensures) ∙ c .if1 .left)
-
--- from one place of the code back to another
-abbrev start-of-then1 : tie.Then1 → tie.Start
-start-of-then1 c = c .before .before .before
-
-abbrev then1-of-put-record : tie.After-put-record → tie.Then1
-then1-of-put-record c = c .before .before
+    let a = start (c .before) .args in
+    place (a .room) (a .i) (a .size) (a .f .packet) ≡ insert (a .room) (a .i) (a .size) (a .f .packet)
+on c = let a = start (c .before) .args in place-on (a .room) (a .i) (a .size) (a .f .packet) (sym (c .before .is-full .ensures) ∙ c .if1 .left)
 
 is-full-requires : tie.Need-is-full-requires
 is-full-requires c κs = search needs
 
 put-record-requires : tie.Need-put-record-requires
-put-record-requires c κs =
-    let at-start = c .before .before .before .before in
-    λ w. omega (arith, at-start .pre .1 .1 w, ap (λ (x : Placing). length (x .closed)) (full (c .before) (newPacket (at-start .args .i)) refl))
+put-record-requires c κs = closing-room (full (c .before) _ refl) (start (c .before .before) .pre .1)
+
+start-after-requires : tie.Need-start-after-requires
+start-after-requires c κs =
+    let s = start (filled c .before) in
+    let a = s .args in
+    closing-near (full (filled c) _ refl) (s .pre .1) (insert-lined (a .room) (a .i) (a .size) (newPacket (a .i) (startAfter (a .f .packet))))
 
 new-packet-requires : tie.Need-new-packet-requires
 new-packet-requires c κs = search needs
 
-add-t14 : tie.Need-add-t14
-add-t14 c = search needs
+add-t15 : tie.Need-add-t15
+add-t15 c = search needs
 
 insert-obu-requires : tie.Need-insert-obu-requires
 insert-obu-requires c κs =
-    let at-put-record = c .before .before .before .before .before in
-    let at-then1 = then1-of-put-record at-put-record in
-    let at-start = start-of-then1 at-then1 in
-    let a = at-start .args in
-    let q = c .before .new-packet .result in
-    let e : q ≡ newPacket (a .i) = c .before .new-packet .ensures in
-    let n = closing-count (a .store) (a .plan .now) (a .f .records) _ _ _ (full (at-then1) q e) in
-    let z : (q .«num_obu_elements» ≡ 0) × (q .«packet_size» ≡ 0) = (ap (λ (p : PacketMetadata). p .«num_obu_elements») e, ap (λ (p : PacketMetadata). p .«packet_size») e) in
-    (omega (arith, at-start .pre .0, charge-none q (z .0)), (omega (arith, at-start .pre .1 .0), λ w. omega (arith, at-start .pre .1 .1 w, at-put-record .put-record .kept .0)))
+    let n = c .before in
+    let t = filled (begun n .before) in
+    let q = n .new-packet .result in
+    let z : (q .«num_obu_elements» ≡ 0) × (q .«packet_size» ≡ 0) = (ap (λ (p : PacketMetadata). p .«num_obu_elements») (new n), ap (λ (p : PacketMetadata). p .«packet_size») (new n)) in (
+      omega (arith, start (t .before) .pre .0, charge-none q (z .0)),
+      closing-asks (full t q (new n)) (start (t .before) .pre .1) _ (stored (begun n .before) .put-record .kept .0),
+    )
 
 same-length : tie.Need-same-length
 same-length c = search needs
 
 returns : tie.Need-returns
 returns c =
-    let at-new-packet = c .before .before .before .before in
-    let at-put-record = at-new-packet .before .before .before .before in
-    let at-then1 = then1-of-put-record at-put-record in
-    let at-start = start-of-then1 at-then1 in
-    let a = at-start .args in
-    closing-stored (a .store) (a .plan .now) (a .f .records) _ _ _ (full (at-then1) (at-new-packet .new-packet .result) (at-new-packet .new-packet .ensures)) _ _ _ _
-    (at-put-record .put-record .ensures)
-    (c .before .before .insert-obu .ensures)
+    let r = c .before .before in
+    let n = r .before .before in
+    closing-stored (full (filled (begun n .before)) _ (new n)) (stored (begun n .before) .put-record .ensures) (r .insert-obu .ensures)
 
 insert-obu-requires-2 : tie.Need-insert-obu-requires-2
 insert-obu-requires-2 c κs =
-    let at-start = c .before .before .before .before in
-    let a = at-start .args in
-    let n = ap (λ (x : Placing). length (x .closed)) (on (c .before)) in
-    (omega (arith, at-start .pre .0, one-more (a .room) (a .f .packet) (sym (c .before .before .is-full .ensures) ∙ c .before .if1 .left)), (omega (arith, at-start .pre .1 .0), λ w. omega (arith, at-start .pre .1 .1 w)))
+    let e = c .before in
+    let s = start (e .before) in
+    let a = s .args in (
+      omega (arith, s .pre .0, one-more (a .room) (a .f .packet) (sym (e .before .is-full .ensures) ∙ e .if1 .left)),
+      rw (on e) at (s .pre .1),
+    )
 
 same-length-2 : tie.Need-same-length-2
 same-length-2 c = search needs
@@ -89,8 +104,9 @@ place-obu-spec =
     (tie.spec
     is-full-requires
     put-record-requires
+    start-after-requires
     new-packet-requires
-    add-t14
+    add-t15
     insert-obu-requires
     same-length
     returns

@@ -7,7 +7,7 @@ use Rattle.turns.proofs.Turning.{asked}
 use Rattle.packing.specs.declared.Place.{Place}
 use Rattle.packing.specs.Pack.{unitWidth}
 use Rattle.packing.specs.Steps.{next, leftTold}
-use Rattle.packing.proofs.Recording.{left-none}
+use Rattle.payloader.proofs.Starts.{left-none}
 use Rattle.packing.proofs.Turning.{gives, ready-as}
 use borrow.Author.Needs.{needs}
 use Rattle.packing.proofs.packet_step.Statement.{statement}

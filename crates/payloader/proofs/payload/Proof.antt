@@ -11,13 +11,15 @@ use Rattle.obu.specs.Unit.{obusOf}
 use Rattle.obu.specs.Laws.{Bytes}
 use Rattle.obu.proofs.Records.{obus-part}
 use Rattle.packetizer.specs.Records.{planNumbers, flatPlan, packetsIn}
-use Rattle.packetizer.specs.Call.{unitPlan, After}
+use Rattle.packetizer.specs.Call.{sizesOf, unitPlan, After}
+use Rattle.packetizer.specs.Laws.{plannedBytes}
 use Rattle.packetizer.specs.Paper.{paper}
 use Rattle.packetizer.specs.declared.Planned.{Planned}
 use Rattle.packetizer.proofs.Records.{plan-part, packets-flat}
-use Rattle.payloader.specs.Payload.{plannedBytes, payloadsOf}
+use Rattle.packetizer.proofs.Starts.{plan-abuts}
+use Rattle.payloader.specs.Payload.{payloadsOf}
 use Rattle.payloader.proofs.Totals.{joined-length}
-use Rattle.payloader.proofs.Calls.{Accepted, accepted, planned-small, outcome-refused, outcome-10, outcome-written}
+use Rattle.payloader.proofs.Calls.{Accepted, accepted, outcome-refused, outcome-10, outcome-written}
 use borrow.Author.Needs.{needs}
 use Rattle.payloader.proofs.payload.Statement.{statement}
 use Rattle.payloader.proofs.payload.Tie as tie
@@ -116,7 +118,7 @@ planned-bytes-requires : tie.Need-planned-bytes-requires
 planned-bytes-requires c κs =
     let p = planned (c .before) in
     let a = start (planning p) .args in
-    rw (plan-held p, packets-flat (unitPlan (a .mtu) (a .unit .now))) (planned-small (a .mtu) (a .unit .now) (known p .small) (known p .most))
+    rw (plan-held p, packets-flat (unitPlan (a .mtu) (a .unit .now))) (plan-abuts (a .mtu) (sizesOf (a .unit .now)))
 
 same-length : tie.Need-same-length
 same-length c = search needs

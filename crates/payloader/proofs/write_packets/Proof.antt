@@ -1,66 +1,100 @@
 use mathlib.Core.Path.{_≡_, ap, _∙_}
-use Prim.Native.Nat.{_-_, _*_, _<_}
+use Prim.Native.Nat.{ℕ, _-_, _*_, _<_}
 use native.Mathlib.Omega.{arith}
 use borrow.Author.Needs.{needs}
-use lib.ListN.{length}
+use mathlib.Core.List.{List}
+use lib.ListN.{length, getD}
+use Rattle.obu.specs.Laws.{Bytes}
 use Rattle.packetizer.specs.Call.{unitPlan}
-use Rattle.packetizer.specs.Records.{planNumbers}
-use Rattle.packetizer.proofs.Records.{plan-length}
+use Rattle.packetizer.specs.Records.{planNumbers, packetsIn, noPacket}
+use Rattle.packetizer.specs.declared.PacketMetadata.{PacketMetadata}
+use Rattle.packetizer.proofs.Records.{plan-length, packets-flat}
+use Rattle.payloader.specs.Payload.{startAt}
 use Rattle.payloader.proofs.Totals.{Sending, sending-first, sending-room, sending-next, sending-last}
 use Rattle.payloader.proofs.write_packets.Statement.{statement}
 use Rattle.payloader.proofs.write_packets.Tie as tie
 
 abbrev Inv-loop : tie.InvT-loop
-Inv-loop mtu unit obus plan out₀ packets at₀ k₀ out at k = Sending mtu unit out₀ out k at
+Inv-loop mtu unit obus plan out₀ packets k₀ out k = Sending mtu unit out₀ out k
 
 abbrev μ-loop : tie.MeasureT-loop
-μ-loop mtu unit obus plan out₀ packets at₀ k₀ out at k = packets - k
+μ-loop mtu unit obus plan out₀ packets k₀ out k = packets - k
 
--- ---- the places: the loop begins; a turn of it
+-- ---- the places: the loop begins; a turn of it: its record is read, its packet is written
 
 abbrev start : tie.At-loop Inv-loop μ-loop → tie.Start Inv-loop μ-loop
 start c = c .before .before .before .before .before
 
-abbrev turn : tie.After-slice-known2 Inv-loop μ-loop → tie.In-loop Inv-loop μ-loop
-turn c = c .before .before .before .before
+abbrev turn : tie.After-packet-at Inv-loop μ-loop → tie.In-loop Inv-loop μ-loop
+turn c = c .before
 
--- how many numbers there are
-count : (c : tie.Start Inv-loop μ-loop) → length (c .args .plan .now) ≡ length (unitPlan (c .args .mtu) (c .args .unit .now)) * planNumbers
-count c = ap length (c .pre .0 .plan-is) ∙ plan-length (unitPlan (c .args .mtu) (c .args .unit .now))
+abbrev reading : tie.After-struct-known Inv-loop μ-loop → tie.After-packet-at Inv-loop μ-loop
+reading c = c .before .before
 
-inside : (c : tie.In-loop Inv-loop μ-loop) → c .before .loop .k < length (unitPlan (start (c .before) .args .mtu) (start (c .before) .args .unit .now))
-inside c = omega (arith, count (start (c .before)), c .loop-test .taken)
+abbrev writing : tie.After-slice-known2 Inv-loop μ-loop → tie.After-write-packet Inv-loop μ-loop
+writing c = c .before .before
+
+abbrev mtu : tie.At-loop Inv-loop μ-loop → ℕ
+mtu c = start c .args .mtu
+
+abbrev unit : tie.At-loop Inv-loop μ-loop → List ℕ
+unit c = start c .args .unit .now
+
+bytes : (c : tie.At-loop Inv-loop μ-loop) → Bytes (unit c)
+bytes c i = c .before .before .before .before .shared-slice-known .given i .fits
+
+-- how many numbers there are, and where the packet starts
+count : (c : tie.At-loop Inv-loop μ-loop) → length (start c .args .plan .now) ≡ length (unitPlan (mtu c) (unit c)) * planNumbers
+count c = ap length (start c .pre .0 .plan-is) ∙ plan-length (unitPlan (mtu c) (unit c))
+
+inside : (c : tie.In-loop Inv-loop μ-loop) → c .before .loop .k < length (unitPlan (mtu (c .before)) (unit (c .before)))
+inside c = omega (arith, count (c .before), c .loop-test .taken)
+
+begins : (c : tie.After-packet-at Inv-loop μ-loop) → c .packet-at .result .«payload_start» ≡ startAt (mtu (turn c .before)) (unit (turn c .before)) (turn c .before .loop .k)
+begins c =
+    let l = turn c .before in
+    ap (λ (p : PacketMetadata). p .«payload_start») (
+    c .packet-at .ensures
+    ∙ ap (λ (n : List ℕ). getD (packetsIn n) (l .loop .k) noPacket) (start l .pre .0 .plan-is)
+    ∙ ap (λ (ps : List PacketMetadata). getD ps (l .loop .k) noPacket) (packets-flat (unitPlan (mtu l) (unit l)))
+    )
 
 loop-holds : tie.Need-loop-holds Inv-loop μ-loop
-loop-holds c = let a = c .before .before .before .before .args in sending-first (a .mtu) (a .unit .now) (a .out .now)
+loop-holds c = sending-first
+
+packet-at-requires : tie.Need-packet-at-requires Inv-loop μ-loop
+packet-at-requires c κs = search needs
+
+cast-write-packet : tie.Need-cast-write-packet Inv-loop μ-loop
+cast-write-packet c = search needs
 
 write-packet-requires : tie.Need-write-packet-requires Inv-loop μ-loop
 write-packet-requires c κs =
-    let t = c .before in
-    let s = start (t .before) in
-    let a = s .args in
-    (s .pre .0, record { there = inside t; room = sending-room (a .mtu) (a .unit .now) (a .out .now) _ _ _ (t .before .loop .inv) (inside t) (s .pre .1) })
+    let t = turn (reading c) in
+    let l = t .before in
+    let s = start l .pre in
+    (s .0, record { there = inside t; room = rw (begins (reading c)) (sending-room (l .loop .inv) (inside t) (s .1)) })
 
 add-k : tie.Need-add-k Inv-loop μ-loop
-add-k c = omega (arith, turn c .loop-test .taken)
+add-k c = omega (arith, turn (reading (writing c .before)) .loop-test .taken)
 
 loop-less : tie.Need-loop-less Inv-loop μ-loop
-loop-less c = search needs
+loop-less c = omega (arith, turn (reading (writing c .before)) .loop-test .taken)
 
 loop-again : tie.Need-loop-again Inv-loop μ-loop
 loop-again c =
-    let t = turn c in
-    let a = start (t .before) .args in
-    let w = c .before .before .write-packet in
-    sending-next (a .mtu) (a .unit .now) (a .out .now) _ _ _ (t .before .loop .inv) (inside t) _ _ (w .ensures .0) (w .ensures .1)
+    let r = reading (writing c .before) in
+    let t = turn r in
+    let l = t .before in
+    sending-next (l .loop .inv) (inside t) (start l .pre .0 .small) (bytes l) (begins r) (writing c .write-packet .ensures .1)
 
 same-length : tie.Need-same-length Inv-loop μ-loop
 same-length c = c .before .loop .inv .storing .same
 
 returns : tie.Need-returns Inv-loop μ-loop
 returns c =
-    let a = start (c .before) .args in
-    sending-last (a .mtu) (a .unit .now) (a .out .now) _ _ _ (c .before .loop .inv) (omega (arith, count (start (c .before)), c .loop-test .left))
+    let l = c .before in
+    sending-last (l .loop .inv) (omega (arith, count l, c .loop-test .left))
 
 pub write-packets-spec : {M : Type 1} → statement M
 write-packets-spec =
@@ -69,6 +103,8 @@ write-packets-spec =
     Inv-loop
     μ-loop
     loop-holds
+    packet-at-requires
+    cast-write-packet
     write-packet-requires
     add-k
     loop-less

@@ -1,10 +1,11 @@
+use mathlib.Core.Path.{refl}
 use borrow.Author.Tests.{eq-eqb, ne-eqb}
 use borrow.Author.Needs.{needs}
 use Rattle.packetizer.proofs.packet.cut_at.Statement.{statement}
 use Rattle.packetizer.proofs.packet.cut_at.Tie as tie
 
 returns : tie.Need-returns
-returns c = rw (eq-eqb (c .before .args .n) 0 (c .if1 .taken))
+returns c = rw (eq-eqb (c .before .args .n) 0 (c .if1 .taken)) refl
 
 with-element-requires : tie.Need-with-element-requires
 with-element-requires c κs = search needs
