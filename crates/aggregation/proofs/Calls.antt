@@ -4,9 +4,9 @@ use Prim.Native.Nat.{ℕ, _+_, _≤_, _<_}
 use native.Mathlib.Omega.{arith}
 use mathlib.Core.List.{List}
 use mathlib.Core.Bool.{true, false, true≢false, cond}
-use lib.Dec.{ltb, eqb}
+use lib.Dec.{ltb, leb, eqb}
 use lib.ListN.{length, getD}
-use borrow.Author.Tests.{le-leb, lt-leb, eqb-false, ltb-false}
+use borrow.Author.Tests.{le-leb, lt-leb, leb-false, eqb-false, ltb-false}
 use Rattle.base.specs.Answers.{Answer, given, refused}
 use Rattle.base.proofs.Tests.{split-on}
 use Rattle.obu.specs.Records.{noObu}
@@ -15,9 +15,9 @@ use Rattle.packetizer.specs.Records.{noPacket}
 use Rattle.packetizer.specs.declared.PacketMetadata.{PacketMetadata}
 use Rattle.aggregation.specs.Header.{lastObu, lacking, byteOf, headerOf}
 
--- the OBU of the last element is one of n
-last-there : (n : ℕ) (p : PacketMetadata) → lacking n p ≡ false → lastObu p < n
-last-there n p e =
+-- a record that lacks nothing has elements, and their OBUs are among n
+pub whole-there : (n : ℕ) (p : PacketMetadata) → lacking n p ≡ false → (1 ≤ p .«num_obu_elements») × (p .«first_obu_index» + p .«num_obu_elements» ≤ n)
+whole-there n p e =
     split-on (eqb (p .«num_obu_elements») 0)
     (λ z. absurd (true≢false (rw z at e)))
     (λ z.
@@ -25,7 +25,10 @@ last-there n p e =
     (λ s. absurd (true≢false (rw (z, s) at e)))
     (λ s.
     let u : p .«num_obu_elements» ≡ 0 → ⊥ = eqb-false _ _ z in
-    omega (arith, ltb-false n (p .«first_obu_index» + p .«num_obu_elements») s)))
+    (omega arith, ltb-false n (p .«first_obu_index» + p .«num_obu_elements») s)))
+
+last-there : (n : ℕ) (p : PacketMetadata) → lacking n p ≡ false → lastObu p < n
+last-there n p e = omega (arith, whole-there n p e)
 
 -- what `last_of` answers says whether the record lacks something
 module _ (n i : ℕ) (p : PacketMetadata) (is : i ≡ cond (lacking n p) n (lastObu p)) where
@@ -40,6 +43,17 @@ module _ (n i : ℕ) (p : PacketMetadata) (is : i ≡ cond (lacking n p) n (last
   at-last h = rw (within h) at is
 
 module _ (obus : List Obu) (packets : List PacketMetadata) (k : ℕ) where
+  -- where a header is given, record k is there and lacks nothing
+  pub given-whole : {h : ℕ} → headerOf obus packets k ≡ given h → (k < length packets) × (lacking (length obus) (getD packets k noPacket) ≡ false)
+  unfolding headerOf
+  given-whole {h} e =
+      split-on (leb (length packets) k)
+      (λ t. let f : refused 11 0 ≡ given h = rw t at e in let z : _≡_ {A = ℕ} 0 1 = cc in absurd (omega arith))
+      (λ t.
+      split-on (lacking (length obus) (getD packets k noPacket))
+      (λ u. let f : refused 11 0 ≡ given h = rw (t, u) at e in let z : _≡_ {A = ℕ} 0 1 = cc in absurd (omega arith))
+      (λ u. (leb-false (length packets) k t, u)))
+
   pub none-there : length packets ≤ k → refused 11 0 ≡ headerOf obus packets k
   unfolding headerOf
   none-there h = rw (le-leb (length packets) k h)

@@ -74,11 +74,19 @@ fn n_bit(first_header: u8, k: usize) -> u8
 }
 
 // The header of packet k, whose record is p: `size` is that of its last element's OBU, `first_header` is of the list's first OBU.
+fn header_bits(p: PacketMetadata, size: u32, first_header: u8, k: usize) -> u8
+    ensures { λ r. ⌜ ((obus : List ObuRecord) → size ≡ getD obus (lastObu p) noObu .size
+        → «first_header» ≡ getD obus 0 noObu .header → r ≡ byteOf obus p k) ⌝ }
+{
+    z_bit(p) | y_bit(p, size) | w_bits(p) | n_bit(first_header, k)
+}
+
+// The same as an answer.
 fn rule(p: PacketMetadata, size: u32, first_header: u8, k: usize) -> HeaderAnswer
     ensures { λ r. ⌜ ((obus : List ObuRecord) → size ≡ getD obus (lastObu p) noObu .size
         → «first_header» ≡ getD obus 0 noObu .header → paper r ≡ given (byteOf obus p k)) ⌝ }
 {
-    HeaderAnswer::Header(z_bit(p) | y_bit(p, size) | w_bits(p) | n_bit(first_header, k))
+    HeaderAnswer::Header(header_bits(p, size, first_header, k))
 }
 
 // Which of n OBUs the last element belongs to, or n if the record has no element, OBUs beyond them, or an end beyond L17.
@@ -117,16 +125,17 @@ pub fn get_aggregation_header(obus: &[u32], plan: &[u32], k: usize) -> HeaderAns
     rule(p, last.size, first.header, k)
 }
 
-// The header of packet k as a byte, where it is known to have one.
+// The header of packet k as a byte, where it is known to have one: nothing is tested.
 // Helper: the header call must give a header for packet k, and no refusal.
 pub fn header_byte(obus: &[u32], plan: &[u32], k: usize) -> u8
     requires { ⌜ headerOf (obusIn (now obus)) (packetsIn (now plan)) k ≡ given (byteOf (obusIn (now obus)) (getD (packetsIn (now plan)) k noPacket) k) ⌝ }
     ensures { λ r. ⌜ r ≡ byteOf (obusIn (now (obus .entry))) (getD (packetsIn (now (plan .entry))) k noPacket) k ⌝ }
 {
-    match get_aggregation_header(obus, plan, k) {
-        HeaderAnswer::Header(header) => header,
-        HeaderAnswer::Refused(_) => 0,
-    }
+    let p = packetizer::packet_at(plan, k);
+    let end = (p.first_obu_index as usize) + (p.num_obu_elements as usize);
+    let last = obu::obu_at(obus, end - 1);
+    let first = obu::obu_at(obus, 0);
+    header_bits(p, last.size, first.header, k)
 }
 
 // From slices of records, by the same rule.

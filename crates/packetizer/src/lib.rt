@@ -134,9 +134,10 @@ fn insert_obu(plan: &mut [u32], store: bool, room: u32, i: u32, size: u32, f: Fi
 {
     let p = f.packet;
     let q = packet::charge(p);
-    if packet::required_bytes(q, size) < room - q.packet_size {
+    let need = packet::required_bytes(q, size);
+    if need < room - q.packet_size {
         return Filling {
-            packet: packet::with_element(q, size),
+            packet: packet::with_element(q, size, need),
             records: f.records,
         };
     }

@@ -64,11 +64,12 @@ pub fn is_full(room: u32, p: PacketMetadata) -> bool
     ensures { λ r. ⌜ r ≡ isFull room p ⌝ }
 {
     let charge = additional_bytes_for_previous_obu_element(p);
-    let left = room - p.packet_size;
-    if p.num_obu_elements >= MAX_NUM_OBUS_TO_OMIT_SIZE {
-        return left < charge + 2;
-    }
-    left < charge + 1
+    let least: u32 = if p.num_obu_elements >= MAX_NUM_OBUS_TO_OMIT_SIZE {
+        2
+    } else {
+        1
+    };
+    room - p.packet_size < charge + least
 }
 
 // The packet with the charge for a further element.
@@ -99,10 +100,10 @@ pub fn required_bytes(p: PacketMetadata, n: u32) -> u32
     n
 }
 
-// The packet with an element of n bytes put in.
-// Helper: n and how many elements there are must be at most 1,048,576, the packet size at most 5 more.
-pub fn with_element(p: PacketMetadata, n: u32) -> PacketMetadata
-    requires { ⌜ (n ≤ unitLimit) × (p .«packet_size» ≤ unitLimit + 5) × (p .«num_obu_elements» ≤ unitLimit) ⌝ }
+// The packet with an element of n bytes put in, which needs so much.
+// Helper: n and how many elements there are must be at most 1,048,576, the packet size at most 5 more, and `need` what the element needs.
+pub fn with_element(p: PacketMetadata, n: u32, need: u32) -> PacketMetadata
+    requires { ⌜ (n ≤ unitLimit) × (p .«packet_size» ≤ unitLimit + 5) × (p .«num_obu_elements» ≤ unitLimit) × (need ≡ needOf p n) ⌝ }
     ensures { λ r. ⌜ r ≡ withElement p n ⌝ }
 {
     PacketMetadata {
@@ -110,7 +111,7 @@ pub fn with_element(p: PacketMetadata, n: u32) -> PacketMetadata
         num_obu_elements: p.num_obu_elements + 1,
         first_obu_offset: p.first_obu_offset,
         last_obu_size: n,
-        packet_size: p.packet_size + required_bytes(p, n),
+        packet_size: p.packet_size + need,
         payload_start: p.payload_start,
     }
 }
@@ -157,7 +158,7 @@ pub fn first_fragment_size(room: u32, p: PacketMetadata, size: u32) -> u32
 }
 
 // The packet with the first fragment in it; with none, as it was before the charge.
-// Helper: of n and `q` the same as `with_element`.
+// Helper: n and how many elements `q` has must be at most 1,048,576, its packet size at most 5 more.
 pub fn cut_at(p: PacketMetadata, q: PacketMetadata, n: u32) -> PacketMetadata
     requires { ⌜ (n ≤ unitLimit) × (q .«packet_size» ≤ unitLimit + 5) × (q .«num_obu_elements» ≤ unitLimit) ⌝ }
     ensures { λ r. ⌜ r ≡ cutAt p q n ⌝ }
@@ -165,5 +166,5 @@ pub fn cut_at(p: PacketMetadata, q: PacketMetadata, n: u32) -> PacketMetadata
     if n == 0 {
         return p;
     }
-    with_element(q, n)
+    with_element(q, n, required_bytes(q, n))
 }

@@ -68,7 +68,10 @@ sub-if1 : tie.Need-sub-if1
 sub-if1 c = let g = c .before .before in omega (arith, told g, start g .pre .0)
 
 with-element-requires : tie.Need-with-element-requires
-with-element-requires c κs = let g = c .before .before .before in omega (arith, told g, start g .pre .0)
+with-element-requires c κs =
+    let b = c .before .before in
+    let g = b .before in
+    (omega (arith, start g .pre .0), omega (arith, told g, start g .pre .0), omega (arith, told g, start g .pre .0), b .required-bytes .ensures)
 
 returns : tie.Need-returns
 returns c =
