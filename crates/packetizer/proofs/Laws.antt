@@ -4,7 +4,7 @@
 --     plan-first, plan-next, plan-last   the same, record by record
 --     plan-sound     each record is as Sound says: its count, its offsets, its packet size
 --     plan-runs      all of that along the list
-use mathlib.Core.Path.{_≡_, refl, sym, ap}
+use mathlib.Core.Path.{_≡_, sym, ap}
 use Prim.Native.Nat.{ℕ, zero, suc, _-_, _≤_, _<_}
 use native.Mathlib.Omega.{arith}
 use mathlib.Core.List.{List, [], _∷_}

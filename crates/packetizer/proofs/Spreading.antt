@@ -7,7 +7,8 @@ use mathlib.Core.Bool.{Bool, true}
 use mathlib.Core.List.{List, [], _∷_, _++_, append-assoc, append-nil}
 use lib.ListN.{length, length-append}
 use borrow.Author.Tests.{lt-ltb, le-ltb}
-use Rattle.packetizer.specs.Plan.{alone, startAfter, startLimit, Placing, filling, closing, closingThen, spread}
+use Rattle.obu.specs.Unit.{unitLimit}
+use Rattle.packetizer.specs.Plan.{alone, startAfter, startLimit, Placing, filling, closingThen, spread}
 use Rattle.packetizer.specs.Paper.{recorded}
 use Rattle.packetizer.specs.Records.{planNumbers}
 use Rattle.packetizer.specs.Inside.{Closable, Closed}
@@ -72,7 +73,7 @@ module _ {store : Bool} {room i s from start records : ℕ} {l₀ l : List ℕ} 
 
   -- it is one of the plan's: it is counted and can be stored, and what comes after it starts where it ends
   module _ (c : Closable store l₀ records (spread s room i s from start)) (h : room < s - o) where
-    pub spreading-few : n + 1 ≤ 1048576
+    pub spreading-few : n + 1 ≤ unitLimit
     spreading-few = omega (arith, c .few, next-count h)
 
     pub spreading-room : store ≡ true → (n + 1) * planNumbers ≤ length l

@@ -8,7 +8,7 @@ use mathlib.Core.List.{List, [], _∷_, _++_}
 use lib.ListN.{length, getD, take}
 use lib.Dec.{ltb, eqb}
 use Rattle.base.proofs.Tests.{by-cond}
-use Rattle.packetizer.specs.Plan.{leastMtu, newPacket, leftIn, isFull, charged, needOf, withElement, fragmentOf, alone, startAfter, Placing, closing, closingThen, cutAt, spread, insert, place, planFrom, planOf}
+use Rattle.packetizer.specs.Plan.{leastMtu, newPacket, leftIn, isFull, charged, needOf, withElement, fragmentOf, alone, startAfter, Placing, closingThen, cutAt, spread, insert, place, planFrom, planOf}
 use Rattle.packetizer.specs.Records.{noPacket}
 use Rattle.packetizer.specs.Laws.{Abut, plannedBytes}
 use Rattle.packetizer.specs.declared.PacketMetadata.{PacketMetadata}

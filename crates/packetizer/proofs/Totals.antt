@@ -2,7 +2,7 @@
 --     plan-total   the elements have as many bytes as the OBUs
 --     plan-short   there are at most as many records as bytes
 --     plan-bytes   the payloads take at most three times as many
-use mathlib.Core.Path.{_≡_, refl, sym, ap, _∙_}
+use mathlib.Core.Path.{_≡_, refl, ap}
 use Prim.Native.Nat.{ℕ, zero, suc, _+_, _-_, _*_, _≤_, _<_}
 use native.Mathlib.Numerals.{add-one}
 use native.Mathlib.Omega.{arith}

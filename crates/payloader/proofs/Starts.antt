@@ -7,7 +7,7 @@ use native.Mathlib.Nat.{add-zero, zero-add}
 use native.Mathlib.Numerals.{add-one}
 use native.Mathlib.Omega.{arith}
 use mathlib.Core.List.{List, [], _∷_, _++_, flatMap}
-use lib.ListN.{length, getD, take, drop, length-append, take-append-drop, drop-of-length-le}
+use lib.ListN.{length, take, drop, length-append, take-append-drop, drop-of-length-le}
 use lib.Seq.{drop-cons, take-at, drop-at}
 use Rattle.base.specs.Lists.{joined}
 use Rattle.base.proofs.Lists.{flatMap-append}
@@ -21,7 +21,7 @@ use Rattle.packetizer.specs.Records.{noPacket}
 use Rattle.packetizer.specs.declared.PacketMetadata.{PacketMetadata}
 use Rattle.packetizer.proofs.Starts.{planned-append, plan-starts}
 use Rattle.payloader.specs.Payload.{payloadAt, startAt, payloadsFrom, payloadsOf}
-use Rattle.payloader.proofs.Totals.{rest, rest-length, joined-length}
+use Rattle.payloader.proofs.Totals.{rest-length, joined-length}
 
 -- ---- the payloads from packet k on
 
