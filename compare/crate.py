@@ -220,12 +220,37 @@ def starts_hold(plan):
     return [packet.start for packet in plan] == [0, *ends][:len(plan)]
 
 
+NEW = 8                         # flag N in an aggregation header
+NEW_WAYS = {                    # by N of packet 0 here and in the crate
+    (True, True): "set in both", (False, False): "clear in both",
+    (True, False): "set here alone", (False, True): "set in the crate alone"}
+
+
+def crate_header(ours, obus, k):
+    """The crate's header of packet k: ours but for N, which it sets on packet 0 exactly if the first OBU is of type 1."""
+    return ours & ~NEW | NEW * (k == 0 and rules.obu_type(obus[0].header) == 1)
+
+
+def new_way(ours, theirs):
+    """Which of two headers of packet 0, ours and the crate's, has N set: a name of NEW_WAYS."""
+    return NEW_WAYS[ours & NEW != 0, theirs & NEW != 0]
+
+
+def both_headers(unit, obus, plan):
+    """For each packet the header by the rules and the crate's."""
+    ours = [rules.header_byte(unit, obus, packet, k) for k, packet in enumerate(plan)]
+    return ours, [crate_header(header, obus, k) for k, header in enumerate(ours)]
+
+
+def headers_text(headers):
+    return ",".join(["%02X" % header for header in headers]) or "-"
+
+
 def both_payloads(unit, obus, plan):
-    """For each packet the payload by the rules and the one with the crate's length fields, and the fields that differ."""
+    """For each packet the payload by the rules and the one with the crate's N and length fields, and the fields that differ."""
     memo, ours, theirs, fields = {}, [], [], 0
-    for k, packet in enumerate(plan):
-        port = bytearray([rules.header_byte(obus, packet, k)])
-        crate = bytearray(port)
+    for packet, *headers in zip(plan, *both_headers(unit, obus, plan)):
+        port, crate = (bytearray([header]) for header in headers)
         for has_length, part in rules.pieces(unit, obus, packet, memo):
             if has_length:
                 port += rules.write_field(len(part))
@@ -237,6 +262,10 @@ def both_payloads(unit, obus, plan):
         ours.append(bytes(port))
         theirs.append(bytes(crate))
     return ours, theirs, fields
+
+
+def payloads_text(payloads):
+    return ",".join([payload.hex().upper() for payload in payloads]) or "-"
 
 
 class Tally:
@@ -287,15 +316,19 @@ def check_answer(mtu, unit, told, answer, tally, layers):
         if not starts_hold(plan):
             complaints.append("plans: a payload's start by the rules breaks P16")
     if "headers" in layers:
-        hold("headers", parts[3], ",".join(["%02X" % rules.header_byte(told, p, k) for k, p in enumerate(plan)]) or "-")
+        ours, theirs = both_headers(unit, told, plan)
+        hold("headers", parts[3], headers_text(theirs))
+        if plan:
+            tally.add("N of packet 0 " + new_way(ours[0], theirs[0]))
     if "payloads" in layers:
         ours, theirs, fields = both_payloads(unit, told, plan)
-        hold("payloads", parts[4], ",".join([p.hex().upper() for p in theirs]) or "-")
+        hold("payloads", parts[4], payloads_text(theirs))
         tally.add("length fields of 128 or more", fields)
-        tally.add("payloads with such a field", sum(a != b for a, b in zip(ours, theirs)))
+        tally.add("payloads with such a field", sum(len(a) != len(b) for a, b in zip(ours, theirs)))
         tally.add("crate's payloads longer than the mtu", sum(len(p) > mtu for p in theirs))
-        if (ours == theirs) != (fields == 0):
-            complaints.append("payloads: %d length fields of 128 or more, yet equal is %s" % (fields, ours == theirs))
+        same = all(a[1:] == b[1:] for a, b in zip(ours, theirs))
+        if same != (fields == 0):
+            complaints.append("payloads: %d length fields of 128 or more, yet equal behind the headers is %s" % (fields, same))
         if any(not 2 <= len(p) <= mtu or len(p) != r.size + 1 for p, r in zip(ours, plan)):
             complaints.append("payloads: a payload by the rules breaks P13")
         if sum(map(len, theirs)) - sum(map(len, ours)) != fields:

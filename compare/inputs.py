@@ -3,6 +3,7 @@ import rules
 
 STORE = rules.STORE_BYTES
 SMALL = bytes.fromhex("0A 01 7F 32 00")         # a unit of two OBUs
+KEY = bytes.fromhex("0A 01 00 32 01 10")        # one that begins a sequence, so that N is set
 
 
 def pack_input(mtu, first, *units, version=1):
@@ -54,7 +55,7 @@ def planlist_inputs():
     for mtu in (0, 1, 2, 3, 65_533, 65_534, 65_535):
         found["mtu_%d.plan" % mtu] = listed(mtu, SMALL)
     # headers with every digit in its place: Z, Y, W 0 to 3, N, and numbers of several digits
-    many = SMALL + b"\x32\x00" * 5 + b"\x36\x08\x90\x01" + bytes(144) + b"\x32\x02\xA1\xA2" * 3
+    many = KEY + b"\x32\x00" * 5 + b"\x36\x08\x90\x01" + bytes(144) + b"\x32\x02\xA1\xA2" * 3
     for mtu in (3, 4, 6, 7, 8, 9, 10, 12, 20, 131, 132, 133, 300, 1200):
         found["headers_%d.plan" % mtu] = listed(mtu, many)
     return found

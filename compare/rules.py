@@ -266,13 +266,38 @@ def plan_unit(mtu, unit, obus, plan):
 
 # ---- aggregation header
 
-def header_byte(obus, packet, k):
-    """H1 to H5. The aggregation header of packet k, from records."""
+def temporal_id(obu):
+    """H9. Bits 5 to 7 of the extension byte; 0 without one."""
+    return obu.extension >> 5 & 7 if has_extension(obu.header) else 0
+
+
+def is_shown_key_frame(sequence, frame):
+    """H9. Whether a frame is a key frame that is shown, by the first payload bytes of its sequence header and of its frame header."""
+    if sequence & 8:                                # reduced_still_picture_header
+        return True
+    show_existing_frame, frame_type, show_frame = frame >> 7, frame >> 5 & 3, frame >> 4 & 1
+    return (show_existing_frame, frame_type, show_frame) == (0, 0, 1)
+
+
+def begins_sequence(unit, obus):
+    """H5, H9. Whether the first frame header has a sequence header before it, and is of a shown key frame of temporal layer 0."""
+    sequence = None                                 # the last sequence header so far
+    for obu in obus:
+        if obu_type(obu.header) == 1:
+            sequence = obu
+        if obu_type(obu.header) in (3, 6):
+            return (sequence is not None and sequence.length > 0 and obu.length > 0 and temporal_id(obu) == 0
+                    and is_shown_key_frame(unit[sequence.start], unit[obu.start]))
+    return False
+
+
+def header_byte(unit, obus, packet, k):
+    """H1 to H5. The aggregation header of packet k, from the unit and records."""
     z = packet.offset > 0
     begins = packet.offset if packet.count == 1 else 0
     y = begins + packet.last < obus[packet.first + packet.count - 1].size
     w = packet.count if packet.count <= 3 else 0
-    n = k == 0 and obu_type(obus[0].header) == 1
+    n = k == 0 and begins_sequence(unit, obus)
     return 128 * z + 64 * y + 16 * w + 8 * n
 
 
@@ -286,12 +311,17 @@ def is_usable(packet, obus):
     return packet.count > 0 and packet.first + packet.count <= len(obus) and packet.start + packet.size + 1 <= END_LIMIT
 
 
-def get_aggregation_header(obus, plan, k):
-    """The header call (H6, H7) over flat lists: the byte, or R11."""
+def are_inside(unit, obus):
+    """R11, H7. Whether the OBU payloads of all records lie in the unit."""
+    return all(obu.start + obu.length <= len(unit) for obu in obus)
+
+
+def get_aggregation_header(unit, obus, plan, k):
+    """The header call (H6, H7) over a unit and flat lists, of which all that is lent counts: the byte, or R11."""
     obus, plan = records(obus, Obu, OBU_NUMBERS), records(plan, Packet, PLAN_NUMBERS)
-    if k >= len(plan) or not is_usable(plan[k], obus):
+    if k >= len(plan) or not is_usable(plan[k], obus) or not are_inside(unit, obus):
         raise Refused(11)
-    return header_byte(obus, plan[k], k)
+    return header_byte(unit, obus, plan[k], k)
 
 
 # ---- payloads
@@ -317,7 +347,7 @@ def payloads(unit, obus, plan):
     """Y1, Y4. The payload of every packet, in order."""
     memo, made = {}, []
     for k, packet in enumerate(plan):
-        out = bytearray([header_byte(obus, packet, k)])
+        out = bytearray([header_byte(unit, obus, packet, k)])
         for has_length, part in pieces(unit, obus, packet, memo):
             if has_length:
                 out += write_field(len(part))
@@ -588,8 +618,9 @@ def planlist_steps(source):
         yield Written(of, b"refused %d %d\n" % (bad.number, bad.offset))
         return
     yield Written(of, b"obus %d\npackets %d\n" % (count, packets))
-    for k, packet in enumerate(records(plan[:PLAN_NUMBERS * packets], Packet, PLAN_NUMBERS)):
-        row = (k, *packet[:-1], get_aggregation_header(obus, plan, k), packet.start)
+    obus, plan = obus[:OBU_NUMBERS * count], plan[:PLAN_NUMBERS * packets]
+    for k, packet in enumerate(records(plan, Packet, PLAN_NUMBERS)):
+        row = (k, *packet[:-1], get_aggregation_header(unit, obus, plan, k), packet.start)
         yield Written(of, b"%d %d %d %d %d %d %02X %d\n" % row)
 
 
@@ -655,7 +686,7 @@ def vectors_line(mtu, obu_numbers, plan_numbers, out_bytes, unit):
         return "refused %d %d" % (bad.number, bad.offset)
     line = "obus %s packets %s" % (records_text(kept), records_text(plan))
     if plan:
-        line += " headers %s payloads %s" % (",".join(["%02X" % header_byte(kept, p, k) for k, p in enumerate(plan)]),
+        line += " headers %s payloads %s" % (",".join(["%02X" % header_byte(unit, kept, p, k) for k, p in enumerate(plan)]),
                                              ",".join([p.hex().upper() for p in made]))
     return line
 
@@ -701,11 +732,11 @@ LONG = "12 00 0A 03 11 22 33 32 05 A1 A2 A3 A4 A5"
 UNIT_ROWS = [  # unit, mtu, payloads or refusal
     ("", 1200, ""),
     ("0A 01 7F", 2, ""),
-    ("0A 01 7F", 3, "58 08 / 90 7F"),
-    ("0A 01 7F", 4, "18 08 7F"),
-    ("0A 01 7F 32 00", 5, "18 08 7F / 10 30"),
-    (LONG, 20, "28 04 08 11 22 33 30 A1 A2 A3 A4 A5"),
-    (LONG, 3, "58 08 11 / 90 22 33 / 50 30 A1 / D0 A2 A3 / 90 A4 A5"),
+    ("0A 01 7F", 3, "50 08 / 90 7F"),
+    ("0A 01 7F", 4, "10 08 7F"),
+    ("0A 01 7F 32 00", 5, "10 08 7F / 10 30"),
+    (LONG, 20, "20 04 08 11 22 33 30 A1 A2 A3 A4 A5"),
+    (LONG, 3, "50 08 11 / 90 22 33 / 50 30 A1 / D0 A2 A3 / 90 A4 A5"),
     ("32 00" * 3, 20, "30 01 30 01 30 30"),
     ("32 00" * 4, 20, "00 01 30 01 30 01 30 01 30"),
     ("34 08", 3, "50 34 / 90 08"),
@@ -724,6 +755,30 @@ UNIT_ROWS = [  # unit, mtu, payloads or refusal
     ("32 00" * 3 + "32 06" + "A1" * 6, 8, "30 01 30 01 30 30 / 50 30 A1 A1 A1 A1 A1 / 90 A1"),
     ("B3 01 7F", 20, "10 B1 7F"),
     ("0A 01 7F", 65_534, "1 at 0"),
+]
+NEW_ROWS = [  # H10 and more: unit, N of packet 0
+    ("0A 01 00 32 01 10", 1), ("0A 01 00 1A 01 10", 1), ("0A 01 00 3A 01 10", 0), ("0A 01 00 22 01 10", 0),
+    # no frame header
+    ("0A 01 00", 0), ("0A 01 08", 0), ("08", 0),
+    # show_frame, frame_type, show_existing_frame; the other bits of the byte
+    ("0A 01 00 32 01 00", 0), ("0A 01 00 32 01 30", 0), ("0A 01 00 32 01 50", 0), ("0A 01 00 32 01 70", 0),
+    ("0A 01 00 32 01 90", 0), ("0A 01 00 32 01 1F", 1), ("0A 01 00 32 03 1F FF FF", 1), ("0A 01 00 32 02 00 10", 0),
+    # reduced_still_picture_header; the other bits of the byte
+    ("0A 01 08 32 01 FF", 1), ("0A 01 08 32 01 00", 1), ("0A 01 F7 32 01 FF", 0), ("0A 01 F7 32 01 10", 1),
+    ("0A 02 00 08 32 01 FF", 0),
+    # the last sequence header before the frame header
+    ("0A 01 08 0A 01 00 32 01 FF", 0), ("0A 01 00 0A 01 08 32 01 FF", 1), ("32 01 10 0A 01 00", 0),
+    ("32 01 10 0A 01 00 32 01 10", 0), ("0A 01 00 32 01 FF 0A 01 08", 0), ("0A 01 08 32 01 FF 0A 01 00", 1),
+    # empty payloads
+    ("0A 00 32 01 10", 0), ("0A 01 00 32 00", 0), ("0A 01 08 32 00", 0), ("0A 00 0A 01 00 32 01 10", 1),
+    ("0A 01 00 0A 00 32 01 10", 0), ("0A 01 00 32 01 10 0A 00 32 00", 1), ("0A 01 00 32 00 32 01 10", 0),
+    # temporal_id, and the rest of the extension byte; that of the sequence header
+    ("0A 01 00 36 20 01 10", 0), ("0A 01 00 36 40 01 10", 0), ("0A 01 00 36 80 01 10", 0), ("0A 01 00 36 18 01 10", 1),
+    ("0A 01 00 36 1F 01 10", 1), ("0A 01 08 36 20 01 FF", 0), ("0A 01 08 36 18 01 FF", 1), ("0E E0 01 00 32 01 10", 1),
+    # the first frame header; other OBUs before, between and behind
+    ("0A 01 00 32 01 10 32 01 30", 1), ("0A 01 00 32 01 30 32 01 10", 0), ("0A 01 00 1A 01 10 22 01 00", 1),
+    ("0A 01 00 3A 01 00 32 01 10", 1), ("12 00 0A 01 00 32 01 10", 1), ("2A 01 04 0A 01 00 2A 01 04 32 01 10", 1),
+    ("2A 00 0A 01 00 30 10", 1),
 ]
 FRAGMENTS = {0: 0, 1: 0, 2: 1, 128: 127, 129: 127, 130: 128, 16_385: 16_383, 16_386: 16_383, 16_387: 16_384}
 ELEMENT_ROWS = [  # payload, its elements or the refusal with its place
@@ -830,19 +885,19 @@ def test_vectors(t):
     """vectors_line says what the payload call and the header call leave in lent slices."""
     rng = random.Random(5)
     for _ in range(2000):
-        unit = b"".join(bytes([rng.choice([0x0A, 0x12, 0x32])]) + write_field(n) + bytes(n) for n in
+        unit = b"".join(bytes([rng.choice([0x0A, 0x12, 0x32])]) + write_field(n) + bytes([rng.choice([0, 8, 16])]) * n for n in
                         [rng.choice([0, 0, 1, 2, 5, rng.randrange(150)]) for _ in range(rng.randrange(7))])
         mtu = rng.choice([2, 3, 4, 7, 20, 150])
         space = [rng.choice([n, width * rng.randrange(8)]) for n, width in ((400, OBU_NUMBERS), (4800, PLAN_NUMBERS), (4000, 5))]
         obus, plan, out = [7] * space[0], [7] * space[1], bytearray(space[2])
         try:
             count, packets, _ = payload(mtu, unit, obus, plan, out)
-            kept = records(obus[:OBU_NUMBERS * count], Obu, OBU_NUMBERS)
-            rows = records(plan[:PLAN_NUMBERS * packets], Packet, PLAN_NUMBERS)
-            want = "obus %s packets %s" % (records_text(kept), records_text(rows))
+            obus, plan = obus[:OBU_NUMBERS * count], plan[:PLAN_NUMBERS * packets]
+            rows = records(plan, Packet, PLAN_NUMBERS)
+            want = "obus %s packets %s" % (records_text(records(obus, Obu, OBU_NUMBERS)), records_text(rows))
             if packets:
                 want += " headers %s payloads %s" % (
-                    ",".join("%02X" % get_aggregation_header(obus, plan, k) for k in range(packets)),
+                    ",".join("%02X" % get_aggregation_header(unit, obus, plan, k) for k in range(packets)),
                     ",".join(payload_in(out, r).hex().upper() for r in rows))
         except Refused as bad:
             want = "refused %d %d" % (bad.number, bad.offset)
@@ -862,28 +917,72 @@ def test_left(t):
         got = answer(payload, mtu, unit, obus, plan, out)
         t.same("left by %r" % (want[0],), (got, obus, plan, out), (
             want[0], full_list if want[1] else [7] * list_numbers, full_plan if want[2] else [7] * plan_numbers,
-            bytearray.fromhex("18 08 7F 10 30") if want[3] else bytearray([7] * out_bytes)))
+            bytearray.fromhex("10 08 7F 10 30") if want[3] else bytearray([7] * out_bytes)))
 
 
 def test_header(t):
-    obus, most = [0x0A, 0, 2, 1, 2, 0x32, 0, 5, 0, 1], 4_294_967_295
+    unit, most = bytes.fromhex("0A 01 00 32 01 10"), 4_294_967_295
+    obus = [0x0A, 0, 2, 1, 2, 0x32, 0, 5, 1, 2]
     for plan, k, want in [
         ([0, 1, 0, 2, 2, 0], 0, 0x18), ([0, 1, 0, 2, 2, 0], 1, [11, 0]), ([0, 0, 0, 2, 2, 0], 0, [11, 0]),
         ([1, 2, 0, 1, 1, 0], 0, [11, 0]), ([0, 3, 0, 1, 1, 0], 0, [11, 0]), ([0, 1, 0, 2, 2], 0, [11, 0]),
-        ([1, 1, 0, 1, 1, 0], 0, 0x18), ([0, 1, 1, 0, 1, 0], 0, 0xD8), ([0, 2, 1, 1, 9, 0], 0, 0xA8),
-        ([0, 2, 1, 0, 9, 0], 0, 0xE8), ([0, 1, most, most, 0, 0], 0, 0x98), ([most, most, 0, 0, 0, 0], 0, [11, 0]),
-        ([0, 1, 0, 2, 2, 0, 1, 1, 0, 1, 1, 3], 1, 0x10), ([0, 1, 0, 2, 2, 0, 1, 1, 0, 1, 1, 99], 1, 0x10),
+        ([1, 1, 0, 2, 2, 0], 0, 0x18), ([0, 1, 1, 0, 1, 0], 0, 0xD8), ([0, 2, 1, 2, 9, 0], 0, 0xA8),
+        ([0, 2, 1, 1, 9, 0], 0, 0xE8), ([0, 1, most, most, 0, 0], 0, 0x98), ([most, most, 0, 0, 0, 0], 0, [11, 0]),
+        ([0, 1, 0, 2, 2, 0, 1, 1, 0, 2, 2, 3], 1, 0x10), ([0, 1, 0, 2, 2, 0, 1, 1, 0, 2, 2, 99], 1, 0x10),
         # start and packet size: their sum and 1 is at the limit, or over it; of record k alone
         ([0, 1, 0, 2, 2, most - 3], 0, 0x18), ([0, 1, 0, 2, 2, most - 2], 0, [11, 0]),
         ([0, 1, 0, 2, most - 1, 0], 0, 0x18), ([0, 1, 0, 2, most, 0], 0, [11, 0]),
         ([0, 1, 0, 2, 0, most - 1], 0, 0x18), ([0, 1, 0, 2, 0, most], 0, [11, 0]), ([0, 1, 0, 2, most, most], 0, [11, 0]),
-        ([0, 1, 0, 2, 2, most, 1, 1, 0, 1, 1, 3], 1, 0x10), ([0, 1, 0, 2, 2, 0, 1, 1, 0, 1, 1, most], 1, [11, 0]),
+        ([0, 1, 0, 2, 2, most, 1, 1, 0, 2, 2, 3], 1, 0x10), ([0, 1, 0, 2, 2, 0, 1, 1, 0, 2, 2, most], 1, [11, 0]),
     ]:
-        t.same("header of %d in %r" % (k, plan), answer(get_aggregation_header, obus, plan, k), want)
-    t.same("an unfinished OBU record", answer(get_aggregation_header, obus[:9], [1, 1, 0, 1, 1, 0], 0), [11, 0])
-    t.same("type above a byte", get_aggregation_header([0xF0A, 0, 0, 1, 2], [0, 1, 0, 2, 2, 0], 0), 0x18)
+        t.same("header of %d in %r" % (k, plan), answer(get_aggregation_header, unit, obus, plan, k), want)
+    t.same("an unfinished OBU record", answer(get_aggregation_header, unit, obus[:9], [1, 1, 0, 1, 1, 0], 0), [11, 0])
     four = [0x32, 0, 0, 0, 1] * 4
-    t.same("W of four", get_aggregation_header(four, [0, 4, 0, 1, 8, 0], 0), 0)
+    t.same("W of four", get_aggregation_header(b"", four, [0, 4, 0, 1, 8, 0], 0), 0)
+
+
+def test_inside(t):
+    """R11, H7: OBU records inside the unit and outside it, used by packet k or not."""
+    most, plan = 4_294_967_295, [0, 1, 0, 2, 2, 0, 1, 1, 0, 2, 2, 3]
+    good = [0x0A, 0, 2, 1, 2]
+    for start, length, inside in [
+        (5, 1, True), (6, 0, True), (0, 6, True), (5, 2, False), (6, 1, False), (7, 0, False), (0, 7, False),
+        (most, 0, False), (0, most, False), (most, 1, False), (most, most, False),
+    ]:
+        for place, obus in enumerate(([0x32, 0, start, length, 2] + good, good + [0x32, 0, start, length, 2])):
+            for k in (0, 1):
+                t.same("header of %d, record %d from %d, %d bytes" % (k, place, start, length),
+                       type(answer(get_aggregation_header, bytes(6), obus, plan, k)) is int, inside)
+        behind = good + good + [0x32, 0, start, length, 2]
+        t.same("a record behind, from %d, %d bytes" % (start, length),
+               answer(get_aggregation_header, bytes(6), behind, plan, 0), 0x10 if inside else [11, 0])
+        t.same("an unfinished one behind", answer(get_aggregation_header, bytes(6), behind[:-1], plan, 0), 0x10)
+    t.same("no unit", answer(get_aggregation_header, b"", [0x32, 0, 0, 0, 1], [0, 1, 0, 1, 1, 0], 0), 0x10)
+    t.same("no unit, a start", answer(get_aggregation_header, b"", [0x32, 0, 1, 0, 1], [0, 1, 0, 1, 1, 0], 0), [11, 0])
+    t.same("a unit over its limit", answer(get_aggregation_header, bytes(UNIT_LIMIT + 2), [0x32, 0, UNIT_LIMIT + 1, 1, 2],
+                                           [0, 1, 0, 2, 2, 0], 0), 0x10)
+
+
+def test_new(t):
+    """H5, H9: N on packet 0 alone, at any mtu; and from any records."""
+    for text, want in NEW_ROWS:
+        unit = bytes.fromhex(text)
+        kept = kept_obus(unit)
+        for mtu in (3, 4, 7, 20):
+            made = payloads(unit, kept, plan_of([obu.size for obu in kept], mtu))
+            t.same("N of %s, mtu %d" % (text, mtu), [data[0] >> 3 & 1 for data in made], [want] + [0] * (len(made) - 1))
+    # above the low byte of header and extension; an extension byte with no extension bit; payloads out of order, or the same
+    unit, plan = bytes.fromhex("0A 01 00 32 01 10"), [0, 1, 0, 2, 2, 0]
+    for sequence, frame, want in [
+        ((0x0A, 0, 2, 1, 2), (0x32, 0, 5, 1, 2), 0x18), ((0xF0A, 0, 2, 1, 2), (0xF32, 0, 5, 1, 2), 0x18),
+        ((0x0A, 0, 2, 1, 2), (0x36, 0xF1F, 5, 1, 2), 0x18), ((0x0A, 0, 2, 1, 2), (0x36, 0xF20, 5, 1, 2), 0x10),
+        ((0x0A, 0, 2, 1, 2), (0x32, 0x20, 5, 1, 2), 0x18), ((0x0A, 0, 2, 1, 2), (0x436, 0x20, 5, 1, 2), 0x10),
+        ((0x0A, 0, 2, 1, 2), (0x432, 0x20, 5, 1, 2), 0x18), ((0x1000A, 0, 2, 1, 2), (0x32, 0, 5, 1, 2), 0x18),
+        ((0x0A, 0, 0, 1, 2), (0x32, 0, 2, 1, 2), 0x18), ((0x0A, 0, 5, 1, 2), (0x32, 0, 2, 1, 2), 0x10),
+        ((0x0A, 0, 5, 1, 2), (0x32, 0, 5, 1, 2), 0x18), ((0x0A, 0, 2, 1, 2), (0x32, 0, 6, 0, 2), 0x10),
+        ((0x0A, 0, 6, 0, 2), (0x32, 0, 5, 1, 2), 0x10), ((0x0A, 0, 2, 1, 2), (0x12, 0, 5, 1, 2), 0x10),
+    ]:
+        t.same("N of %r, %r" % (sequence, frame), answer(get_aggregation_header, unit, [*sequence, *frame], plan, 0), want)
 
 
 def test_elements(t):
@@ -993,7 +1092,7 @@ def test_delivery(t):
 def test_programs(t):
     head = bytes.fromhex("01 00 05 00 00 00 05")
     example = head + bytes.fromhex("0A 01 7F 32 00")
-    t.same("planlist", planlist(example), "obus 2\npackets 2\n0 0 1 0 2 2 18 0\n1 1 1 0 1 1 10 3\n")
+    t.same("planlist", planlist(example), "obus 2\npackets 2\n0 0 1 0 2 2 10 0\n1 1 1 0 1 1 10 3\n")
     for what, data in [("empty", b""), ("head cut", head[:6]), ("less", example[:-1]), ("more", example + b"\0"),
                        ("version", b"\x02" + example[1:]), ("store", b"\x01\x00\x05\x00\x00\x80\x01" + bytes(32_769))]:
         t.same("planlist, %s" % what, planlist(data), "bad input\n")
@@ -1007,7 +1106,7 @@ def test_programs(t):
     t.same("planlist, 513 OBUs", planlist(b"\x01\xFF\xFD\x00\x00\x04\x02" + b"\x32\x00" * 513), "refused 8 1024\n")
     t.same("planlist, 513 packets", planlist(b"\x01\x00\x03\x00\x00\x04\x02" + b"\x30" + bytes(1025)), "refused 9 0\n")
     units = bytes.fromhex("00 00 00 05 0A 01 7F 32 00") + bytes(4) + bytes.fromhex("00 00 00 01 30")
-    train = bytes.fromhex("01 0005FFFF18087F 000400001030 000400011030")
+    train = bytes.fromhex("01 0005FFFF10087F 000400001030 000400011030")
     no_head = (b"", b"input: no head\n")
     for what, data, want in [
         ("whole", bytes.fromhex("01 00 05 FF FF") + units, (train, b"")),
@@ -1074,8 +1173,8 @@ def test_failures(t):
         ("planlist", b"\2" + listed[1:7], b"bad input\n"),
     ]:
         t.same("%s, reading fails behind %s" % (name, data.hex()), b"".join(map(step_bytes, run(name, data, True))), want)
-    joined, rows = bytes.fromhex("320130"), [b"obus 2\npackets 2\n", b"0 0 1 0 2 2 18 0\n", b"1 1 1 0 1 1 10 3\n"]
-    first = bytes.fromhex("0005FFFF18087F")
+    joined, rows = bytes.fromhex("320130"), [b"obus 2\npackets 2\n", b"0 0 1 0 2 2 10 0\n", b"1 1 1 0 1 1 10 3\n"]
+    first = bytes.fromhex("0005FFFF10087F")
     for name, data, writes, want in [
         ("unpack", file, 0, behind + b"record 2: write failed\n"),
         ("unpack", file, 1, behind + joined + b"record 3: write failed\n"),
@@ -1093,8 +1192,8 @@ def test_failures(t):
 
 def self_test():
     t = Test()
-    for test in (test_fields, test_list, test_plan, test_law, test_vectors, test_left, test_header, test_elements, test_receiver,
-                 test_delivery, test_programs, test_failures):
+    for test in (test_fields, test_list, test_plan, test_law, test_vectors, test_left, test_header, test_inside, test_new,
+                 test_elements, test_receiver, test_delivery, test_programs, test_failures):
         test(t)
     print("%d rows, %d do not hold" % (t.rows, t.failed))
     return 1 if t.failed else 0

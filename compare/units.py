@@ -154,7 +154,55 @@ def placed():
                     yield case("placed", dice, b"".join(parts), count, mtu)
 
 
+# OBUs that N looks at, and some that it does not: sequence headers, plain, reduced and empty; frames that are shown key frames, hidden,
+# not key frames, of temporal layer 1, of spatial layer 3, empty; a frame header, a redundant one; metadata, a temporal delimiter
+FLAGGED = [bytes.fromhex(text) for text in (
+    "0A0100", "0A0108", "0A00", "320110", "320100", "320130", "36200110", "36180110", "3200", "1A0110", "3A0110", "2A0104", "1200")]
+
+
+def flagged():
+    """FLAGGED in every order, one to four of them; then each byte that N looks at, with every value."""
+    dice = Dice(12)
+    for count in (1, 2, 3, 4):
+        for row in itertools.product(FLAGGED, repeat=count):
+            yield case("flagged", dice, b"".join(row), count)
+    for sequence, frame in itertools.product(b"\x00\x08", b"\x10\xFF"):
+        for byte in range(256):
+            yield case("flagged", dice, bytes([0x0A, 1, byte, 0x32, 1, frame]), 2)
+            yield case("flagged", dice, bytes([0x0A, 1, sequence, 0x1A, 1, byte]), 2)
+            yield case("flagged", dice, bytes([0x0A, 1, sequence, 0x36, byte, 1, frame]), 2)
+            yield case("flagged", dice, bytes([byte | 2, 1, sequence, 0x32, 1, frame]), 2)
+            yield case("flagged", dice, bytes([0x0A, 1, sequence, byte | 2, 1, frame]), 2)
+
+
 # ---- kinds that never end
+
+def flag_byte(dice, kind):
+    """The first byte of an OBU payload of this type: mostly one of those between which N decides."""
+    if dice.chance(20):
+        return dice.below(256)
+    return dice.pick((0x00, 0x00, 0x08, 0xF7, 0xFF)) if kind == 1 else dice.pick((0x10, 0x10, 0x10, 0x1F, 0x00, 0x30, 0x50, 0x90))
+
+
+def flagged_obu(dice, kind):
+    """An OBU of this type, at times with layer ids, at times with an empty payload."""
+    head = bytes([kind << 3 | 2])
+    if dice.chance(30):
+        head = bytes([head[0] | 4, dice.pick((0x00, 0x08, 0x1F, 0x20, 0x40, 0x80, 0xE0))])
+    length = dice.pick((0, 1, 1, 2, 3, 5, 8, dice.below(20), dice.between(124, 131)))
+    body = bytes([flag_byte(dice, kind)]) + dice.bytes(length - 1) if length else b""
+    return head + field(length, dice.between(1, 8) if dice.chance(8) else 1) + body
+
+
+def sequences():
+    """Sequence headers, frames and some OBUs besides in any order; a sequence header often leads, or comes second."""
+    dice = Dice(27)
+    while True:
+        kinds = [dice.pick((1, 3, 3, 6, 6, 6, 4, 5, 7, 2, 0)) for _ in range(dice.between(1, 8))]
+        if dice.chance(60):
+            kinds.insert(dice.below(2), 1)
+        yield case("sequences", dice, b"".join([flagged_obu(dice, kind) for kind in kinds]), len(kinds))
+
 
 def formed():
     """Well-formed units."""
@@ -283,6 +331,8 @@ KINDS = [  # name, how many, the cases, whether there are more
     ("4 bytes", 50_625, lambda: every("4 bytes", 3, FOUR, (4,)), False),
     ("5 and 6 bytes", 54_432, lambda: every("5 and 6 bytes", 4, SIX, (5, 6)), False),
     ("placed", 26_856, placed, False),
+    ("flagged", 36_060, flagged, False),
+    ("sequences", 20_000, sequences, True),
     ("formed", 40_000, formed, True),
     ("edge", 8_000, edge, True),
     ("many", 2_500, many, True),

@@ -61,7 +61,8 @@ enum av1rtp_refusal {
     AV1RTP_NO_ROOM_FOR_PAYLOADS = 10, /* the payloads together are longer than the output */
     /* header */
     AV1RTP_NO_USABLE_PACKET = 11, /* no record k, or one of no element, or with OBUs beyond the list, or whose payload start, packet
-                                   * size and 1 add up to more than 4294967295 */
+                                   * size and 1 add up to more than 4294967295; or, for any k, an OBU record whose payload start and
+                                   * payload length add up to more than the unit's length */
     /* receive: these leave state, store and output as they were. element gives 13, 15, 16 and 17 */
     AV1RTP_STATE_IMPOSSIBLE = 12, /* the state's open length is above the store's length or the fragment's limit */
     AV1RTP_PAYLOAD_LENGTH = 13,   /* payload empty or over its limit */
@@ -98,10 +99,12 @@ uint32_t av1rtp_plan(size_t mtu, const uint8_t *unit, size_t unit_length, uint32
 uint32_t av1rtp_payload(size_t mtu, const uint8_t *unit, size_t unit_length, uint32_t *obus, size_t obus_length, uint32_t *plan,
                         size_t plan_length, uint8_t *out, size_t out_length, size_t answer[4]);
 
-/* The aggregation header of packet k, from any OBU list and plan, which are as long as they are lent.
+/* The aggregation header of packet k, from any unit, OBU list and plan. The lists are as long as they are lent: lend the filled part,
+ * which is AV1RTP_OBU_NUMBERS times the OBUs and AV1RTP_PLAN_NUMBERS times the packets of the answer. An old record behind it would
+ * count: it is looked at for flag N, and can give refusal 11. Of a record's header and extension byte the low 8 bits count.
  * answer: 0, the byte. Refusal 11. */
-uint32_t av1rtp_header(const uint32_t *obus, size_t obus_length, const uint32_t *plan, size_t plan_length, size_t k,
-                       size_t answer[4]);
+uint32_t av1rtp_header(const uint8_t *unit, size_t unit_length, const uint32_t *obus, size_t obus_length, const uint32_t *plan,
+                       size_t plan_length, size_t k, size_t answer[4]);
 
 /* ---- receiving */
 

@@ -36,6 +36,8 @@ mod raw {
             answer: *mut [usize; 4],
         ) -> u32;
         pub(super) fn av1rtp_header(
+            unit: *const u8,
+            unit_length: usize,
             obus: *const u32,
             obus_length: usize,
             plan: *const u32,
@@ -123,9 +125,12 @@ pub(crate) fn payload(
 }
 
 #[inline]
-pub(crate) fn header(obus: &[u32], plan: &[u32], k: usize, answer: &mut Answer) -> u32 {
+pub(crate) fn header(unit: &[u8], obus: &[u32], plan: &[u32], k: usize, answer: &mut Answer) -> u32 {
+    let (obus_from, plan_from) = (obus.as_ptr(), plan.as_ptr());
     // SAFETY: as in `list`.
-    unsafe { raw::av1rtp_header(obus.as_ptr(), obus.len(), plan.as_ptr(), plan.len(), k, answer) }
+    unsafe {
+        raw::av1rtp_header(unit.as_ptr(), unit.len(), obus_from, obus.len(), plan_from, plan.len(), k, answer)
+    }
 }
 
 #[inline]

@@ -123,10 +123,11 @@ pub fn payload(
         .map(|[obus, packets, bytes]| Payloads { obus, packets, bytes })
 }
 
-/// The header call: the aggregation header of packet k, from lists of any numbers. Refusal 11.
+/// The header call: the aggregation header of packet k, from a unit and lists of any numbers. Lend the filled part of a list: an old
+/// record behind it would count, for flag N and for refusal 11. Refusal 11.
 #[inline]
-pub fn header(obus: &[u32], plan: &[u32], k: usize) -> Result<u8, Refusal> {
-    answered(|answer| ffi::header(obus, plan, k, answer)).map(|[byte, _, _]| byte as u8)
+pub fn header(unit: &[u8], obus: &[u32], plan: &[u32], k: usize) -> Result<u8, Refusal> {
+    answered(|answer| ffi::header(unit, obus, plan, k, answer)).map(|[byte, _, _]| byte as u8)
 }
 
 /// The element call: where element k lies. Refusals 13, 15, 16, 17.

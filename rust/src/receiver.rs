@@ -9,7 +9,7 @@ use crate::{Reason, Refusal, FRAGMENT_LIMIT, PAYLOAD_LIMIT};
 ///
 /// ```
 /// let mut receiver = av1rtp::Receiver::new();
-/// assert_eq!(receiver.receive(65535, &[0x58, 0x08]), Ok(&[][..]));            // the OBU goes on in the next packet
+/// assert_eq!(receiver.receive(65535, &[0x50, 0x08]), Ok(&[][..]));            // the OBU goes on in the next packet
 /// assert_eq!(receiver.receive(0, &[0x90, 0x7F]), Ok(&[0x0A, 0x01, 0x7F][..]));
 /// assert_eq!(receiver.receive(0, &[0x90, 0x7F]).unwrap_err().number(), 14);   // a repeat
 /// ```
@@ -82,7 +82,7 @@ impl Receiver {
 /// Element k of a payload, counted from 0, as a part of it; empty if there is none or the payload is bad.
 ///
 /// ```
-/// let payload = [0x28, 0x02, 0x08, 0x7F, 0x30];
+/// let payload = [0x20, 0x02, 0x08, 0x7F, 0x30];
 /// assert_eq!(av1rtp::element(&payload, 0), [0x08, 0x7F]);
 /// assert_eq!(av1rtp::element(&payload, 1), [0x30]);
 /// assert_eq!(av1rtp::element(&payload, 2), []);

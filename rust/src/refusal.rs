@@ -40,7 +40,7 @@ reasons! {
     8 ObuListFull "the OBU list has no room for this OBU"
     9 PlanListFull "the plan list is shorter than the plan"
     10 NoRoomForPayloads "the output is shorter than all payloads together"
-    11 NoUsablePacket "there is no such packet, or its record has no element, OBUs beyond the list or an end past 4,294,967,295"
+    11 NoUsablePacket "there is no such packet, or its record has no element, OBUs beyond the list or an end past 4,294,967,295, or an OBU record lies outside the unit"
     12 StateImpossible "the open length is above the store's length or its limit"
     13 PayloadLength "the payload is empty or longer than 65,533 bytes"
     14 NotAhead "the number is not ahead of the last one taken"

@@ -189,7 +189,7 @@ fn double(list: &mut Vec<u32>, numbers: usize, records: usize) -> bool {
 ///
 /// ```
 /// let unit = [0x0A, 0x01, 0x7F, 0x32, 0x00];
-/// assert_eq!(av1rtp::payload(&unit, 5), Ok(vec![vec![0x18, 0x08, 0x7F], vec![0x10, 0x30]]));
+/// assert_eq!(av1rtp::payload(&unit, 5), Ok(vec![vec![0x10, 0x08, 0x7F], vec![0x10, 0x30]]));
 ///
 /// let refusal = av1rtp::payload(&[0x32, 0x02, 0xA1], 20).unwrap_err();
 /// assert_eq!(refusal.to_string(), "refused 7 at 0: an OBU's payload runs past the unit");

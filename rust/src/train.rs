@@ -24,7 +24,7 @@ pub struct Packet<'a> {
 ///     train.push(&payload).unwrap();
 /// }
 /// let train = train.into_bytes();
-/// assert_eq!(train, [1, 0, 4, 0xFF, 0xFF, 0x58, 0x08, 0, 4, 0, 0, 0x90, 0x7F]);
+/// assert_eq!(train, [1, 0, 4, 0xFF, 0xFF, 0x50, 0x08, 0, 4, 0, 0, 0x90, 0x7F]);
 ///
 /// let mut receiver = av1rtp::Receiver::new();
 /// let mut obus = Vec::new();

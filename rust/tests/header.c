@@ -21,7 +21,8 @@ static int words(const size_t answer[4], size_t offset, size_t a, size_t b, size
 int main(void) {
     static const uint8_t unit[] = {0x0A, 0x01, 0x7F, 0x32, 0x00};
     static const uint8_t broken[] = {0x32, 0x00, 0x32, 0x02, 0xA1};
-    static const uint8_t payloads[] = {0x18, 0x08, 0x7F, 0x10, 0x30};
+    static const uint8_t payloads[] = {0x10, 0x08, 0x7F, 0x10, 0x30};
+    static const uint8_t key[] = {0x0A, 0x01, 0x00, 0x32, 0x01, 0x10};
     static const uint32_t records[] = {10, 0, 2, 1, 2, 50, 0, 5, 0, 1};
     static const uint32_t packets[] = {0, 1, 0, 2, 2, 0, 1, 1, 0, 1, 1, 3};
     static const uint32_t at_limit[] = {0, 1, 0, 2, 2, 4294967292}, over_limit[] = {0, 1, 0, 2, 2, 4294967293};
@@ -39,10 +40,14 @@ int main(void) {
     EXPECT(memcmp(out, payloads, sizeof payloads) == 0);
     EXPECT(av1rtp_payload(5, unit, sizeof unit, obus, 10, plan, 12, out, 4, answer) == AV1RTP_NO_ROOM_FOR_PAYLOADS);
     EXPECT(av1rtp_payload(65534, unit, sizeof unit, obus, 10, plan, 12, out, 8, answer) == AV1RTP_MTU_OVER_LIMIT);
-    EXPECT(av1rtp_header(obus, 10, plan, 12, 1, answer) == 0 && words(answer, 0, 0x10, 0, 0));
-    EXPECT(av1rtp_header(obus, 10, plan, 12, 2, answer) == AV1RTP_NO_USABLE_PACKET);
-    EXPECT(av1rtp_header(obus, 10, at_limit, 6, 0, answer) == 0 && words(answer, 0, 0x18, 0, 0));
-    EXPECT(av1rtp_header(obus, 10, over_limit, 6, 0, answer) == AV1RTP_NO_USABLE_PACKET && words(answer, 0, 0, 0, 0));
+    EXPECT(av1rtp_header(unit, sizeof unit, obus, 10, plan, 12, 1, answer) == 0 && words(answer, 0, 0x10, 0, 0));
+    EXPECT(av1rtp_header(unit, sizeof unit, obus, 10, plan, 12, 2, answer) == AV1RTP_NO_USABLE_PACKET);
+    EXPECT(av1rtp_header(unit, sizeof unit, obus, 10, at_limit, 6, 0, answer) == 0 && words(answer, 0, 0x10, 0, 0));
+    EXPECT(av1rtp_header(unit, sizeof unit, obus, 10, over_limit, 6, 0, answer) == AV1RTP_NO_USABLE_PACKET);
+    EXPECT(words(answer, 0, 0, 0, 0));
+    EXPECT(av1rtp_header(unit, 4, obus, 10, plan, 12, 0, answer) == AV1RTP_NO_USABLE_PACKET && words(answer, 0, 0, 0, 0));
+    EXPECT(av1rtp_plan(20, key, sizeof key, obus, 10, plan, 12, answer) == 0 && words(answer, 0, 2, 1, 0));
+    EXPECT(av1rtp_header(key, sizeof key, obus, 10, plan, 6, 0, answer) == 0 && words(answer, 0, 0x28, 0, 0));
 
     static const uint8_t first[] = {0x58, 0x08}, last[] = {0x90, 0x7F}, two[] = {0x28, 0x02, 0x08, 0x7F, 0x30};
     static const uint8_t obu[] = {0x0A, 0x01, 0x7F};

@@ -8,6 +8,9 @@ use std::collections::BTreeMap;
 use std::io::{BufRead, BufReader, Write};
 use std::process::{Command, Stdio};
 
+/// Flag N.
+const NEW: u8 = 8;
+
 fn setting(name: &str, otherwise: u64) -> u64 {
     std::env::var(name).ok().map_or(otherwise, |text| text.parse().unwrap())
 }
@@ -25,10 +28,15 @@ fn crate_length(n: usize) -> Vec<u8> {
     }
 }
 
-/// Our payload with the crate's lengths.
-fn with_crate_lengths(payload: &[u8]) -> Vec<u8> {
+/// The crate's aggregation header of packet k: ours but for N, which it sets on packet 0 exactly if the first OBU is of type 1.
+fn crate_header(ours: u8, obus: &[av1rtp::Obu], k: usize) -> u8 {
+    ours & !NEW | if k == 0 && obus[0].header >> 3 & 15 == 1 { NEW } else { 0 }
+}
+
+/// Our payload with the crate's header and lengths.
+fn crate_payload(payload: &[u8], header: u8) -> Vec<u8> {
     let n = elements(payload).unwrap();
-    let mut bytes = vec![payload[0]];
+    let mut bytes = vec![header];
     for k in 0..n {
         let part = element(payload, k);
         if payload[0] & 48 == 0 || k + 1 < n {
@@ -47,7 +55,8 @@ fn joined(parts: Vec<String>, between: &str) -> String {
     }
 }
 
-/// The oracle's line for a unit that is accepted: OBUs, plan, headers, payloads. The crate's plan keeps no start of a payload.
+/// The oracle's line for a unit that is accepted: OBUs, plan, headers, payloads. The crate's plan keeps no start of a payload. Our N is
+/// not looked at here: `fixed_list` does that.
 fn line_for(unit: &[u8], mtu: usize) -> Result<String, av1rtp::Refusal> {
     let payloads = av1rtp::payload(unit, mtu)?;
     let plan = av1rtp::plan(unit, mtu)?;
@@ -64,14 +73,21 @@ fn line_for(unit: &[u8], mtu: usize) -> Result<String, av1rtp::Refusal> {
     let mut flat_obus = vec![0; lent::OBU_NUMBERS * plan.obus.len()];
     let mut flat_plan = vec![0; lent::PLAN_NUMBERS * plan.packets.len()];
     lent::plan(mtu, unit, &mut flat_obus, &mut flat_plan)?;
-    let headers =
-        (0..payloads.len()).map(|k| format!("{:02X}", lent::header(&flat_obus, &flat_plan, k).unwrap()));
-    let written = payloads.iter().map(|p| hex(&with_crate_lengths(p)));
+    let headers: Vec<u8> = payloads
+        .iter()
+        .enumerate()
+        .map(|(k, payload)| {
+            assert_eq!(lent::header(unit, &flat_obus, &flat_plan, k), Ok(payload[0]));
+            crate_header(payload[0], &plan.obus, k)
+        })
+        .collect();
+    let written =
+        payloads.iter().zip(&headers).map(|(payload, &header)| hex(&crate_payload(payload, header)));
     Ok(format!(
         "ok {} {} {} {}",
         joined(obus.collect(), ";"),
         joined(records.collect(), ";"),
-        joined(headers.collect(), ","),
+        joined(headers.iter().map(|header| format!("{header:02X}")).collect(), ","),
         joined(written.collect(), ",")
     ))
 }

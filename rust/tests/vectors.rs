@@ -91,7 +91,8 @@ fn answer_to(case: &Case) -> String {
     }
     line += &format!(" packets {}", written.packets);
     if written.packets > 0 {
-        let headers = (0..written.packets).map(|k| format!("{:02X}", lent::header(obus, plan, k).unwrap()));
+        let header = |k| lent::header(&case.unit, obus, plan, k).unwrap();
+        let headers = (0..written.packets).map(|k| format!("{:02X}", header(k)));
         let mut at = 0;
         let payloads = plan.chunks(PLAN_NUMBERS).map(|r| {
             let start = at;
@@ -151,7 +152,7 @@ fn fixed_list_with_lists_that_grow() {
 
 #[test]
 fn header_without_a_packet() {
-    let reason = |obus: &[u32], plan: &[u32], k| lent::header(obus, plan, k).unwrap_err().reason();
+    let reason = |obus: &[u32], plan: &[u32], k| lent::header(&[], obus, plan, k).unwrap_err().reason();
     assert_eq!(reason(&[], &[], 0), Reason::NoUsablePacket);
     assert_eq!(reason(&[48, 0, 0, 0, 1], &[0, 1, 0, 1, 1, 0], 1), Reason::NoUsablePacket);
     assert_eq!(reason(&[48, 0, 0, 0, 1], &[0, 1, 0, 1, 1], 0), Reason::NoUsablePacket);
@@ -165,7 +166,7 @@ fn header_of_a_payload_that_ends_too_far() {
     const MOST: u32 = u32::MAX;
     let header = |packet_size, payload_start| {
         let plan = [0, 1, 0, 1, 1, MOST, 0, 1, 0, 1, packet_size, payload_start];
-        lent::header(&[48, 0, 0, 0, 1], &plan, 1).map_err(|refusal| refusal.reason())
+        lent::header(&[], &[48, 0, 0, 0, 1], &plan, 1).map_err(|refusal| refusal.reason())
     };
     for (packet_size, payload_start) in [(1, MOST - 2), (0, MOST - 1), (MOST - 1, 0)] {
         assert_eq!(header(packet_size, payload_start), Ok(0x10));
@@ -173,4 +174,50 @@ fn header_of_a_payload_that_ends_too_far() {
     for (packet_size, payload_start) in [(1, MOST - 1), (0, MOST), (MOST, 0), (MOST, MOST)] {
         assert_eq!(header(packet_size, payload_start), Err(Reason::NoUsablePacket));
     }
+}
+
+/// An OBU record may end where the unit does and no further, also one that packet k does not use.
+#[test]
+fn header_of_records_outside_the_unit() {
+    const MOST: u32 = u32::MAX;
+    let header = |start, length, k| {
+        let obus = [48, 0, 0, 6, 7, 48, 0, start, length, 2];
+        let plan = [0, 1, 0, 7, 7, 0, 1, 1, 0, 2, 2, 8];
+        lent::header(&[0; 6], &obus, &plan, k).map_err(|refusal| refusal.reason())
+    };
+    for k in [0, 1] {
+        for (start, length) in [(5, 1), (6, 0), (0, 6)] {
+            assert_eq!(header(start, length, k), Ok(0x10));
+        }
+        for (start, length) in [(5, 2), (6, 1), (7, 0), (0, 7), (MOST, 1), (MOST, MOST)] {
+            assert_eq!(header(start, length, k), Err(Reason::NoUsablePacket));
+        }
+    }
+}
+
+/// A record behind the filled part counts, for N too.
+#[test]
+fn header_from_the_filled_part() {
+    let unit = [0x0A, 0x01, 0x00, 0x32, 0x01, 0x10];
+    let (mut obus, mut plan) = ([OLD_NUMBER; 3 * OBU_NUMBERS], [OLD_NUMBER; PLAN_NUMBERS]);
+    assert!(lent::plan(20, &unit, &mut obus, &mut plan).is_ok());
+    assert_eq!(lent::header(&unit, &obus[..10], &plan, 0), Ok(0x28));
+    assert_eq!(lent::header(&unit, &obus, &plan, 0).unwrap_err().reason(), Reason::NoUsablePacket);
+    obus[5..].copy_from_slice(&[0x2A, 0, 5, 1, 2, 0x32, 0, 5, 1, 2]);
+    assert_eq!(lent::header(&unit, &obus[..10], &plan, 0), Ok(0x20));
+    assert_eq!(lent::header(&unit, &obus, &plan, 0), Ok(0x28));
+}
+
+/// Of a record's header and extension byte the low 8 bits count.
+#[test]
+fn header_from_numbers_above_a_byte() {
+    let new = |sequence, frame, extension| {
+        let obus = [sequence, 0, 2, 1, 2, frame, extension, 5, 1, 2];
+        let header = lent::header(&[0x0A, 0x01, 0x00, 0x32, 0x01, 0x10], &obus, &[0, 1, 0, 2, 2, 0], 0);
+        header.unwrap() == 0x18
+    };
+    assert!(new(0x0A, 0x32, 0) && new(0xFFFF_FF0A, 0xFFFF_FF32, 0));
+    assert!(new(0x0A, 0x36, 0xFFFF_FF1F) && !new(0x0A, 0x36, 0x120));
+    assert!(new(0x0A, 0x432, 0x20) && !new(0x0A, 0x436, 0x20));
+    assert!(!new(0x800, 0x32, 0) && !new(0x0A, 0x3000, 0));
 }

@@ -13,7 +13,7 @@ use Rattle.obu.specs.Records.{noObu}
 use Rattle.obu.specs.declared.Obu.{Obu}
 use Rattle.packetizer.specs.Records.{noPacket}
 use Rattle.packetizer.specs.declared.PacketMetadata.{PacketMetadata}
-use Rattle.aggregation.specs.Header.{lastObu, lacking, byteOf, headerOf}
+use Rattle.aggregation.specs.Header.{lastObu, lacking, anyOutside, byteOf, headerOf}
 
 -- a record that lacks nothing has elements, and their OBUs are among n
 pub whole-there : (n : ℕ) (p : PacketMetadata) → lacking n p ≡ false → (1 ≤ p .«num_obu_elements») × (p .«first_obu_index» + p .«num_obu_elements» ≤ n)
@@ -42,22 +42,34 @@ module _ (n i : ℕ) (p : PacketMetadata) (is : i ≡ cond (lacking n p) n (last
   at-last : i < n → i ≡ lastObu p
   at-last h = rw (within h) at is
 
-module _ (obus : List Obu) (packets : List PacketMetadata) (k : ℕ) where
-  -- where a header is given, record k is there and lacks nothing
-  pub given-whole : {h : ℕ} → headerOf obus packets k ≡ given h → (k < length packets) × (lacking (length obus) (getD packets k noPacket) ≡ false)
+module _ (unit : List ℕ) (obus : List Obu) (packets : List PacketMetadata) (k : ℕ) where
+  -- what is so where a header is given
+  pub record Whole : Type 0 where
+    pub there : k < length packets
+    pub lacks-nothing : lacking (length obus) (getD packets k noPacket) ≡ false
+    pub inside : anyOutside unit obus ≡ false
+
+  pub given-whole : {h : ℕ} → headerOf unit obus packets k ≡ given h → Whole
   unfolding headerOf
   given-whole {h} e =
       split-on (leb (length packets) k)
-      (λ t. let f : refused 11 0 ≡ given h = rw t at e in let z : _≡_ {A = ℕ} 0 1 = cc in absurd (omega arith))
+      (λ t. absurd (none-given (rw t at e)))
       (λ t.
       split-on (lacking (length obus) (getD packets k noPacket))
-      (λ u. let f : refused 11 0 ≡ given h = rw (t, u) at e in let z : _≡_ {A = ℕ} 0 1 = cc in absurd (omega arith))
-      (λ u. (leb-false (length packets) k t, u)))
+      (λ u. absurd (none-given (rw (t, u) at e)))
+      (λ u.
+      split-on (anyOutside unit obus)
+      (λ v. absurd (none-given (rw (t, u, v) at e)))
+      (λ v. record { there = leb-false (length packets) k t; lacks-nothing = u; inside = v })))
+    where
+      none-given : refused 11 0 ≡ given h → ⊥
+      none-given f = let z : _≡_ {A = ℕ} 0 1 = cc in omega arith
 
-  pub none-there : length packets ≤ k → refused 11 0 ≡ headerOf obus packets k
+  pub none-there : length packets ≤ k → refused 11 0 ≡ headerOf unit obus packets k
   unfolding headerOf
   none-there h = rw (le-leb (length packets) k h)
 
+  -- by what `last_of` answers for record k
   module _
       (there : k < length packets)
       (n i : ℕ)
@@ -66,13 +78,14 @@ module _ (obus : List Obu) (packets : List PacketMetadata) (k : ℕ) where
       (found : p ≡ getD packets k noPacket)
       (is : i ≡ cond (lacking n p) n (lastObu p))
     where
-      pub lacks : n ≤ i → refused 11 0 ≡ headerOf obus packets k
+      pub lacks : n ≤ i → refused 11 0 ≡ headerOf unit obus packets k
       unfolding headerOf
       lacks h = rw (lt-leb (length packets) k there, ← count, ← found, beyond n i p is h)
 
       -- OBU i is the last element's
-      pub answers : i < n → (a : Answer ℕ) → (getD obus i noObu .size ≡ getD obus (lastObu p) noObu .size → a ≡ given (byteOf obus p k))
-          → a ≡ headerOf obus packets k
+      pub answers : i < n → (a : Answer ℕ)
+          → (getD obus i noObu .size ≡ getD obus (lastObu p) noObu .size → a ≡ cond (anyOutside unit obus) (refused 11 0) (given (byteOf unit obus p k)))
+          → a ≡ headerOf unit obus packets k
       unfolding headerOf
       answers h a f =
           rw (lt-leb (length packets) k there, ← count, ← found, within n i p is h)

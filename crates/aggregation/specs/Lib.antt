@@ -1,2 +1,4 @@
+pub mod New
 pub mod Header
+pub mod Inside
 pub mod Paper

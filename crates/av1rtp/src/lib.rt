@@ -99,15 +99,16 @@ pub extern "C" fn av1rtp_payload(
 // The aggregation header of packet k. Words: 0, the header byte.
 #[no_mangle]
 pub extern "C" fn av1rtp_header(
+    unit: &[u8],
     obus: &[u32],
     plan: &[u32],
     k: usize,
     answer: &mut [usize; 4],
 ) -> u32
-    ensures { λ r. ⌜ (r ≡ numberIn (headerOf (obusIn (now (obus .entry))) (packetsIn (now (plan .entry))) k))
-        × (now (answer .exit) ≡ wordsIn one (headerOf (obusIn (now (obus .entry))) (packetsIn (now (plan .entry))) k)) ⌝ }
+    ensures { λ r. ⌜ (r ≡ numberIn (headerOf (now (unit .entry)) (obusIn (now (obus .entry))) (packetsIn (now (plan .entry))) k))
+        × (now (answer .exit) ≡ wordsIn one (headerOf (now (unit .entry)) (obusIn (now (obus .entry))) (packetsIn (now (plan .entry))) k)) ⌝ }
 {
-    match aggregation::get_aggregation_header(obus, plan, k) {
+    match aggregation::get_aggregation_header(unit, obus, plan, k) {
         HeaderAnswer::Header(header) => give(answer, header as usize, 0, 0),
         HeaderAnswer::Refused(refusal) => refuse(answer, refusal, 0),
     }

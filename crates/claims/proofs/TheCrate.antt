@@ -1,8 +1,9 @@
--- The crate, transcribed, and that the port does the same (D2).
+-- The crate, transcribed, and that the port does the same but for N and size fields (D2).
 use mathlib.Core.Path.{_≡_}
 use mathlib.Core.List.{map}
-use Rattle.crate_laws.specs.Same.{SameUnits, SentAllowed, ListedSame, PlannedSame, SentSame, FieldsSame, SamePlans, NeverSplits, EqualPayloads, SameNew, SameHeaders, SamePayloads}
+use Rattle.crate_laws.specs.Same.{SameUnits, SentAllowed, ListedSame, PlannedSame, SentSame, FieldsSame, SamePlans, NeverSplits, SameLater, EqualPayloads}
 use Rattle.crate_laws.specs.Pieces.{EqualPieces}
+use Rattle.crate_laws.specs.Parted.{NewDiffers}
 use Rattle.crate_laws.specs.Turns.{EnoughTurns}
 use Rattle.crate_laws.proofs.Same as same
 use Rattle.crate_laws.proofs.Fields as fields
@@ -39,24 +40,21 @@ same-plans = plans.same-plans
 pub never-splits : NeverSplits
 never-splits = steps.never-splits
 
--- the payloads byte for byte, where no length is of 128 or more and N is the same
+-- N: after packet 0 header bytes are the same; on packet 0 the crate or we may set it alone
+
+pub same-later : SameLater
+same-later = new.same-later
+
+pub new-differs : NewDiffers
+new-differs = rows.new-differs
+
+-- the payloads byte for byte, where no length is of 128 or more and N of packet 0 is the same
 
 pub equal-pieces : EqualPieces
 equal-pieces = pieces.equal-pieces
 
 pub equal-payloads : EqualPayloads
-equal-payloads = same.equal-payloads
-
--- N is the same, and so header bytes and payloads are
-
-pub same-new : SameNew
-same-new = new.same-new
-
-pub same-headers : SameHeaders
-same-headers = new.same-headers
-
-pub same-payloads : SamePayloads
-same-payloads = new.same-payloads
+equal-payloads = new.equal-payloads
 
 -- the transcription: its loops end within their turns, and it computes to what the crate was seen to do
 

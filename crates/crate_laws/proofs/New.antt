@@ -1,41 +1,49 @@
--- N of the crate and ours (D2, H5, X9), and what follows with it. Assumes nothing.
---     same-new        N is the same on every packet
---     same-headers    so whole header bytes are
---     same-payloads   so payloads are, byte for byte, where no length of 128 or more is written
+-- N of the crate and ours (D2, X9): they differ on packet 0 alone, if at all; and what follows. Assumes nothing.
+--     same-later       header bytes are the same after packet 0
+--     equal-payloads   payloads are, byte for byte, where N of packet 0 is the same and no length of 128 or more is written
 use mathlib.Core.Path.{_≡_, sym, ap, _∙_}
-use Prim.Native.Nat.{ℕ, _+_}
-use mathlib.Core.List.{List, [], _∷_, map}
-use mathlib.Core.Bool.{and-false}
+use Prim.Native.Nat.{ℕ, zero, suc, _+_, _≤_}
+use native.Mathlib.Omega.{arith}
+use mathlib.Core.List.{List, [], _∷_}
 use lib.ListN.{getD}
-use lib.Dec.{eqb}
+use borrow.Author.Tests.{ne-eqb}
 use Rattle.base.specs.Answers.{given}
 use Rattle.obu.specs.Unit.{obusOf}
 use Rattle.obu.specs.declared.Obu.{Obu}
 use Rattle.packetizer.specs.Call.{unitPlan}
 use Rattle.packetizer.specs.Records.{noPacket}
-use Rattle.aggregation.specs.Header.{nOf}
+use Rattle.aggregation.specs.New.{nOf}
+use Rattle.crate_laws.specs.Rust.{Outcome, ok}
+use Rattle.crate_laws.specs.Obu.{CrateObu}
 use Rattle.crate_laws.specs.Packetizer.{setsN}
-use Rattle.crate_laws.specs.Pieces.{crateNew, zywOf}
-use Rattle.crate_laws.specs.Same.{asCrate, crateObus, SameNew, SameHeaders, SamePayloads}
-use Rattle.crate_laws.proofs.Steps.{type-is}
-use Rattle.crate_laws.proofs.Same.{same-units, equal-payloads}
+use Rattle.crate_laws.specs.Pieces.{crateNew, zywOf, piecesOf}
+use Rattle.crate_laws.specs.Same.{crateObus, SameLater, NewAgrees, EqualPayloads}
+use Rattle.crate_laws.proofs.Pieces.{equal-pieces}
+use Rattle.crate_laws.proofs.Same.{same-units}
 
-new-is : (unit : List ℕ) (obus : List Obu) (k : ℕ) → crateNew (map (asCrate unit) obus) k ≡ nOf obus k
+-- after packet 0 neither sets N, whatever their lists
+new-later : (crate : List CrateObu) (unit : List ℕ) (obus : List Obu) (k : ℕ) → 1 ≤ k → crateNew crate k ≡ nOf unit obus k
 unfolding setsN nOf
-new-is unit [] k = rw (and-false (eqb k 0))
-new-is unit (o ∷ obus) k = rw (type-is (o .header))
+new-later [] unit obus k after = rw (ne-eqb k 0 (λ e. omega arith))
+new-later (first ∷ crate) unit obus k after = rw (ne-eqb k 0 (λ e. omega arith))
 
-pub same-new : SameNew
-same-new mtu unit bytes a k = new-is unit (obusOf unit) k
-
-pub same-headers : SameHeaders
-same-headers mtu unit bytes a k h =
-    let s = same-units mtu unit bytes a .headers k h in
+pub same-later : SameLater
+same-later mtu unit bytes a k after there =
+    let s = same-units mtu unit bytes a .headers k there in
     let zyw : ℕ = zywOf (obusOf unit) (getD (unitPlan mtu unit) k noPacket) in (
       zyw + crateNew (crateObus unit) k,
       s .theirs,
-      s .ours ∙ ap (λ (n : ℕ). given (zyw + n)) (sym (same-new mtu unit bytes a k)),
+      s .ours ∙ ap (λ (n : ℕ). given (zyw + n)) (sym (new-later (crateObus unit) unit (obusOf unit) k after)),
     )
 
-pub same-payloads : SamePayloads
-same-payloads mtu unit bytes a short = equal-payloads mtu unit bytes a short (same-new mtu unit bytes a)
+-- the same on packet 0, and so on all
+new-same : (unit : List ℕ) → NewAgrees unit → (k : ℕ) → crateNew (crateObus unit) k ≡ nOf unit (obusOf unit) k
+new-same unit agrees zero = agrees
+new-same unit agrees (suc k) = new-later (crateObus unit) unit (obusOf unit) (suc k) (omega arith)
+
+pub equal-payloads : EqualPayloads
+equal-payloads mtu unit bytes a short agrees =
+    let s = same-units mtu unit bytes a in
+    s .payloads
+    ∙ ap {B = Outcome (List (List ℕ))} ok
+    (equal-pieces (crateObus unit) unit (obusOf unit) (piecesOf mtu unit) (new-same unit agrees) short ∙ sym (s .ours))

@@ -11,7 +11,8 @@ use Rattle.obu.specs.declared.Obu.{Obu}
 use Rattle.packetizer.specs.Plan.{mostCounted}
 use Rattle.packetizer.specs.Elements.{elementsOf}
 use Rattle.packetizer.specs.declared.PacketMetadata.{PacketMetadata}
-use Rattle.aggregation.specs.Header.{nOf, byteOf}
+use Rattle.aggregation.specs.New.{nOf}
+use Rattle.aggregation.specs.Header.{byteOf}
 use Rattle.payloader.specs.Payload as ours
 use Rattle.crate_laws.specs.Obu.{CrateObu}
 use Rattle.crate_laws.specs.Pieces.{Piece, header, bytes, lengthField, Writer, pieceBy, writtenBy, crateNew, crateWriter, ourWriter, zywOf, fieldedPieces, packetPieces, piecesFrom, ShortPiece, ShortPieces, EqualPieces}
@@ -41,12 +42,12 @@ module _ (w : Writer) where
 -- ---- our payloads
 
 payload-written : (unit : List ℕ) (obus : List Obu) (k : ℕ) (p : PacketMetadata)
-    → ours.payload encode unit obus k p ≡ writtenBy (ourWriter obus) (packetPieces unit obus k p)
+    → ours.payload encode unit obus k p ≡ writtenBy (ourWriter unit obus) (packetPieces unit obus k p)
 unfolding ours.payload byteOf zywOf
-payload-written unit obus k p = packet-written (ourWriter obus) unit obus k p
+payload-written unit obus k p = packet-written (ourWriter unit obus) unit obus k p
 
 pub payloads-written : (unit : List ℕ) (obus : List Obu) (k : ℕ) (ps : List PacketMetadata)
-    → ours.payloadsFrom encode unit obus k ps ≡ map (writtenBy (ourWriter obus)) (piecesFrom unit obus k ps)
+    → ours.payloadsFrom encode unit obus k ps ≡ map (writtenBy (ourWriter unit obus)) (piecesFrom unit obus k ps)
 unfolding ours.payloadsFrom piecesFrom
 payloads-written unit obus k [] = refl
 payloads-written unit obus k (p ∷ ps) =
@@ -54,21 +55,21 @@ payloads-written unit obus k (p ∷ ps) =
 
 -- ---- the same bytes, where the two writers have the same N and no length is of 128 or more
 
-module _ (crate : List CrateObu) (obus : List Obu) (new : (k : ℕ) → crateNew crate k ≡ nOf obus k) where
-  piece-same : (q : Piece) → ShortPiece q → pieceBy (crateWriter crate) q ≡ pieceBy (ourWriter obus) q
+module _ (crate : List CrateObu) (unit : List ℕ) (obus : List Obu) (new : (k : ℕ) → crateNew crate k ≡ nOf unit obus k) where
+  piece-same : (q : Piece) → ShortPiece q → pieceBy (crateWriter crate) q ≡ pieceBy (ourWriter unit obus) q
   piece-same (header k zyw) s = ap (λ (n : ℕ). (zyw + n) ∷ []) (new k)
   piece-same (bytes l) s = refl
   piece-same (lengthField n) s = short-lengths n s
 
-  pieces-same : (qs : List Piece) → All ShortPiece qs → writtenBy (crateWriter crate) qs ≡ writtenBy (ourWriter obus) qs
+  pieces-same : (qs : List Piece) → All ShortPiece qs → writtenBy (crateWriter crate) qs ≡ writtenBy (ourWriter unit obus) qs
   unfolding flatMap
   pieces-same [] s = refl
   pieces-same (q ∷ qs) s = ap₂ (λ (l m : List ℕ). l ++ m) (piece-same q (s .0)) (pieces-same qs (s .1))
 
   packets-same : (packets : List (List Piece)) → ShortPieces packets
-      → map (writtenBy (crateWriter crate)) packets ≡ map (writtenBy (ourWriter obus)) packets
+      → map (writtenBy (crateWriter crate)) packets ≡ map (writtenBy (ourWriter unit obus)) packets
   packets-same [] s = refl
   packets-same (p ∷ ps) s = ap₂ {C = List (List ℕ)} (λ l m. l ∷ m) (pieces-same p (s .0)) (packets-same ps (s .1))
 
 pub equal-pieces : EqualPieces
-equal-pieces crate obus packets new short = packets-same crate obus new packets short
+equal-pieces crate unit obus packets new short = packets-same crate unit obus new packets short

@@ -10,14 +10,15 @@ use Rattle.obu.specs.Front.{frontOf, headed}
 use Rattle.packetizer.specs.Fragment.{largestFragment}
 use Rattle.packetizer.specs.Plan.{chargeOf, isFull, needOf, fragmentOf, spread, insert, place, planFrom, planOf}
 use Rattle.packetizer.specs.Elements.{elementsFrom}
-use Rattle.aggregation.specs.Header.{nOf, byteOf}
+use Rattle.aggregation.specs.New.{beforeFrame, fromFrame, nOf}
+use Rattle.aggregation.specs.Header.{byteOf}
 use Rattle.payloader.specs.Payload as ours
 use Rattle.crate_laws.specs.Rust.{Outcome, ok, err, panic, _>>=_, ErrPayloadTooSmallForObuExtensionHeader, ErrPayloadTooSmallForObuPayloadSize, at, pop, slice, minus}
 use Rattle.crate_laws.specs.Leb128.{encodeTurns, decodeTurns, readFrom, sizeTurns, putTurns}
 use Rattle.crate_laws.specs.Obu.{CrateObu, «parse_obus», extensionHeader, sizedPayload, obuPayload, obuAt, parseFrom}
 use Rattle.crate_laws.specs.Packetizer.{CratePacket, «additional_bytes_for_previous_obu_element», fragmentTurns, «max_fragment_size», opened, withFragment, middles, withLast, obuTurn, packetizeTurns, «packetize», setsN, «get_aggregation_header»}
 use Rattle.crate_laws.specs.Payload.{payloadOffset, elementOf, storeFrom, lastFrom, packetBytes, packetsFrom, payload}
-use Rattle.crate_laws.specs.Parted.{outgrown, Outgrows}
+use Rattle.crate_laws.specs.Parted.{outgrown, Outgrows, NewDiffers}
 
 -- an OBU: header byte, extension byte, size, and the bytes of its payload; a packet: its five numbers
 obuNumbers : CrateObu → List ℕ
@@ -93,5 +94,11 @@ table = refl
 -- ---- the crate's payload outgrows the mtu of 132
 
 pub outgrows : Outgrows
-unfolding outgrown at slice minus decodeTurns readFrom extensionHeader sizedPayload obuPayload obuAt parseFrom setsN «get_aggregation_header» payloadOffset elementOf storeFrom lastFrom packetBytes packetsFrom payload pop «additional_bytes_for_previous_obu_element» opened middles sizeTurns fragmentTurns «max_fragment_size» withFragment withLast obuTurn packetizeTurns «packetize» encodeTurns putTurns streamFrom frontOf headed fieldIn keep encodeIn planOf planFrom place insert spread fragmentOf needOf isFull chargeOf largestFragment elementsFrom nOf byteOf ours.fielded ours.payload ours.payloadsFrom flatMap
+unfolding outgrown at slice minus decodeTurns readFrom extensionHeader sizedPayload obuPayload obuAt parseFrom setsN «get_aggregation_header» payloadOffset elementOf storeFrom lastFrom packetBytes packetsFrom payload pop «additional_bytes_for_previous_obu_element» opened middles sizeTurns fragmentTurns «max_fragment_size» withFragment withLast obuTurn packetizeTurns «packetize» encodeTurns putTurns streamFrom frontOf headed fieldIn keep encodeIn planOf planFrom place insert spread fragmentOf needOf isFull chargeOf largestFragment elementsFrom beforeFrame fromFrame nOf byteOf ours.fielded ours.payload ours.payloadsFrom flatMap
 outgrows = record { crate-lengths = refl; our-lengths = refl; crate-first = refl; our-first = refl }
+
+-- ---- N of packet 0: the crate alone sets it, and we alone do
+
+pub new-differs : NewDiffers
+unfolding at slice minus decodeTurns readFrom extensionHeader sizedPayload obuPayload obuAt parseFrom setsN «get_aggregation_header» payloadOffset elementOf storeFrom lastFrom packetBytes packetsFrom payload pop «additional_bytes_for_previous_obu_element» opened middles sizeTurns fragmentTurns «max_fragment_size» withFragment withLast obuTurn packetizeTurns «packetize» encodeTurns putTurns streamFrom frontOf headed fieldIn keep encodeIn planOf planFrom place insert spread fragmentOf needOf isFull chargeOf largestFragment elementsFrom beforeFrame fromFrame nOf byteOf ours.fielded ours.payload ours.payloadsFrom flatMap
+new-differs = record { crate-sets = refl; ours-clear = refl; crate-clear = refl; ours-sets = refl }

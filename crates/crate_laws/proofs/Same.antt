@@ -1,6 +1,5 @@
 -- Crate and port agree on every allowed unit (D2). Assumes nothing.
 --     same-units                list, plan, headers but for N, payloads but for N and how a length is written
---     equal-payloads            payloads byte for byte, where the two N are the same and no length of 128 or more is written
 --     sent-allowed              a unit that the payload call accepts is allowed
 --     listed-same               the list, where the list call answers with a count
 --     planned-same, sent-same   as same-units, where the plan call or the payload call answers with numbers
@@ -30,7 +29,8 @@ use Rattle.packetizer.specs.declared.Planned.{Planned}
 use Rattle.packetizer.specs.Laws.{Sound}
 use Rattle.packetizer.specs.Records.{planNumbers, noPacket}
 use Rattle.packetizer.proofs.Calls.{unit-small, given-kept}
-use Rattle.aggregation.specs.Header.{nOf, byteOf, headerOf}
+use Rattle.aggregation.specs.New.{nOf}
+use Rattle.aggregation.specs.Header.{byteOf, headerOf}
 use Rattle.aggregation.proofs.Headers.{alike}
 use Rattle.payloader.specs.Payload as ours
 use Rattle.payloader.specs.Call as call
@@ -40,12 +40,12 @@ use Rattle.crate_laws.specs.Rust.{Outcome, ok}
 use Rattle.crate_laws.specs.Packetizer.{CratePacket, «packetize»}
 use Rattle.crate_laws.specs.Payload.{packetBytes, packetsFrom, payload}
 use Rattle.crate_laws.specs.Pieces.{writtenBy, crateWriter, zywOf, packetPieces, piecesFrom, piecesOf}
-use Rattle.crate_laws.specs.Same.{Allowed, asCrate, crateObus, asCratePacket, cratePackets, crateSizes, In32Bits, SameHeader, SameUnits, EqualPayloads, SentAllowed, ListedSame, PlannedSame, SentSame}
+use Rattle.crate_laws.specs.Same.{Allowed, asCrate, crateObus, asCratePacket, cratePackets, crateSizes, In32Bits, SameHeader, SameUnits, SentAllowed, ListedSame, PlannedSame, SentSame}
 use Rattle.crate_laws.proofs.Lists.{parse-same}
 use Rattle.crate_laws.proofs.Plans.{same-plans}
 use Rattle.crate_laws.proofs.Headers.{header-same}
 use Rattle.crate_laws.proofs.Packets.{packet-is}
-use Rattle.crate_laws.proofs.Pieces.{payloads-written, equal-pieces}
+use Rattle.crate_laws.proofs.Pieces.{payloads-written}
 
 sizes-same : (unit : List ℕ) (obus : List Obu) → crateSizes (map (asCrate unit) obus) ≡ sizes obus
 sizes-same unit [] = refl
@@ -91,8 +91,8 @@ module _ (mtu : ℕ) (unit : List ℕ) (bytes : Bytes unit) (a : Allowed mtu uni
       rw (parse-same unit bytes (a .whole), plan-same, length-map plan asCratePacket)
       (packets-from unit os plan (λ k h. packet-is unit os (λ i l. obu-lies unit i bytes l) (mtu - 1) plan k h (sound k h)) (length plan) 0 (omega arith))
 
-  our-header : (k : ℕ) → headerOf os plan k ≡ given (byteOf os (getD plan k noPacket) k)
-      → headerOf os plan k ≡ given (zywOf os (getD plan k noPacket) + nOf os k)
+  our-header : (k : ℕ) → headerOf unit os plan k ≡ given (byteOf unit os (getD plan k noPacket) k)
+      → headerOf unit os plan k ≡ given (zywOf os (getD plan k noPacket) + nOf unit os k)
   unfolding byteOf zywOf
   our-header k e = e
 
@@ -101,7 +101,7 @@ module _ (mtu : ℕ) (unit : List ℕ) (bytes : Bytes unit) (a : Allowed mtu uni
       let s = sound k h in
       let inside : getD plan k noPacket .«first_obu_index» + getD plan k noPacket .«num_obu_elements» ≤ length os =
       omega (arith, s .inside, length-map os (λ (o : Obu). o .size)) in
-      record { theirs = header-same unit os plan k h (s .some) inside; ours = our-header k (sym (alike os plan k) ∙ packet-header mtu unit k (a .short) h) }
+      record { theirs = header-same unit os plan k h (s .some) inside; ours = our-header k (sym (alike unit os plan k) ∙ packet-header mtu unit k (a .short) h) }
 
 pub same-units : SameUnits
 same-units mtu unit bytes a =
@@ -112,11 +112,6 @@ same-units mtu unit bytes a =
       payloads = payload-is mtu unit bytes a;
       ours = payloads-written unit (obusOf unit) 0 (unitPlan mtu unit);
     }
-
-pub equal-payloads : EqualPayloads
-equal-payloads mtu unit bytes a short new =
-    let s = same-units mtu unit bytes a in
-    s .payloads ∙ ap {B = Outcome (List (List ℕ))} ok (equal-pieces (crateObus unit) (obusOf unit) (piecesOf mtu unit) new short ∙ sym (s .ours))
 
 -- ---- the calls: what they answer with numbers is accepted
 

@@ -1,9 +1,10 @@
--- Where crate and port part (X3 to X8): the statements.
+-- Where crate and port part (X3 to X9): the statements.
 --     RefusedSame                      what the crate does with a unit that we refuse by 3, 4 or 7
 --     UnendingRead, LowRead, LastRead  what it reads of a size field that does not end, is over 32 bits, has more than eight bytes
 --     ShortLengths, LongLengths, NeverSame   how it writes a length below 128, and from there to the limit of a unit
 --     ThreeHundred                     300, in both
 --     Outgrows                         so a payload of it may outgrow the mtu
+--     NewDiffers                       N of packet 0, which it alone sets, or we alone
 use mathlib.Core.Path.{_≡_}
 use Prim.Native.Nat.{ℕ, _+_, _≤_, _<_}
 use mathlib.Core.List.{List, [], _∷_, _++_, map}
@@ -82,3 +83,19 @@ pub record Outgrows : Type 0 where
   pub crate-first :
       (payload 132 outgrown >>= λ l. ok (map fourAfterHeader l)) ≡ ok ((0x81 ∷ 0x80 ∷ 2 ∷ 0x30 ∷ []) ∷ (0 ∷ []) ∷ [])
   pub our-first : map fourAfterHeader (payloadsOf 132 outgrown) ≡ (0x80 ∷ 1 ∷ 0x30 ∷ 0xa1 ∷ []) ∷ (0 ∷ []) ∷ []
+
+-- ---- N of packet 0: the two payloads of a unit differ in it alone
+
+-- a sequence header before a frame that is no shown key frame: the crate alone sets N
+abbrev pub noKeyFrame : List ℕ
+noKeyFrame = 0x0a ∷ 1 ∷ 0 ∷ 0x32 ∷ 1 ∷ 0 ∷ []
+
+-- metadata, and then a sequence header before a shown key frame: we alone do
+abbrev pub metadataFirst : List ℕ
+metadataFirst = 0x2a ∷ 1 ∷ 0 ∷ 0x0a ∷ 1 ∷ 0 ∷ 0x32 ∷ 1 ∷ 0x10 ∷ []
+
+pub record NewDiffers : Type 0 where
+  pub crate-sets : payload 20 noKeyFrame ≡ ok ((0x28 ∷ 2 ∷ 8 ∷ 0 ∷ 0x30 ∷ 0 ∷ []) ∷ [])
+  pub ours-clear : payloadsOf 20 noKeyFrame ≡ (0x20 ∷ 2 ∷ 8 ∷ 0 ∷ 0x30 ∷ 0 ∷ []) ∷ []
+  pub crate-clear : payload 20 metadataFirst ≡ ok ((0x30 ∷ 2 ∷ 0x28 ∷ 0 ∷ 2 ∷ 8 ∷ 0 ∷ 0x30 ∷ 0x10 ∷ []) ∷ [])
+  pub ours-sets : payloadsOf 20 metadataFirst ≡ (0x38 ∷ 2 ∷ 0x28 ∷ 0 ∷ 2 ∷ 8 ∷ 0 ∷ 0x30 ∷ 0x10 ∷ []) ∷ []

@@ -15,7 +15,8 @@ use Rattle.packetizer.specs.Plan.{mostCounted}
 use Rattle.packetizer.specs.Elements.{elementsOf}
 use Rattle.packetizer.specs.Call.{unitPlan}
 use Rattle.packetizer.specs.declared.PacketMetadata.{PacketMetadata}
-use Rattle.aggregation.specs.Header.{lastObu, zOf, yOf, wOf, nOf}
+use Rattle.aggregation.specs.New.{nOf}
+use Rattle.aggregation.specs.Header.{lastObu, zOf, yOf, wOf}
 use Rattle.payloader.specs.Payload.{partsOf}
 use Rattle.crate_laws.specs.Obu.{CrateObu}
 use Rattle.crate_laws.specs.Packetizer.{setsN}
@@ -42,15 +43,15 @@ pieceBy w (lengthField n) = w .lengths n
 abbrev pub writtenBy : Writer → List Piece → List ℕ
 writtenBy w pieces = flatMap (pieceBy w) pieces
 
--- by their OBU lists
+-- the crate sets N by its OBU list, we by the unit and ours
 abbrev pub crateNew : List CrateObu → ℕ → ℕ
 crateNew obus k = cond (setsN obus k) 8 0
 
 abbrev pub crateWriter : List CrateObu → Writer
 crateWriter obus = record { lengths = putLength; new = crateNew obus }
 
-abbrev pub ourWriter : List Obu → Writer
-ourWriter obus = record { lengths = encode; new = nOf obus }
+abbrev pub ourWriter : List ℕ → List Obu → Writer
+ourWriter unit obus = record { lengths = encode; new = nOf unit obus }
 
 -- ---- the pieces of a unit's packets
 
@@ -91,5 +92,6 @@ ShortPieces packets = All (All ShortPiece) packets
 -- where the two N are the same too, both write the same bytes
 abbrev pub EqualPieces : Type 0
 EqualPieces =
-    (crate : List CrateObu) (obus : List Obu) (packets : List (List Piece)) → ((k : ℕ) → crateNew crate k ≡ nOf obus k)
-    → ShortPieces packets → map (writtenBy (crateWriter crate)) packets ≡ map (writtenBy (ourWriter obus)) packets
+    (crate : List CrateObu) (unit : List ℕ) (obus : List Obu) (packets : List (List Piece))
+    → ((k : ℕ) → crateNew crate k ≡ nOf unit obus k)
+    → ShortPieces packets → map (writtenBy (crateWriter crate)) packets ≡ map (writtenBy (ourWriter unit obus)) packets

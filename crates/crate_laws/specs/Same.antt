@@ -1,10 +1,8 @@
 -- What it is for crate and port to agree on a unit (D2): the statements.
 --     SameUnits                 list, plan, headers but for N, payloads but for N and how a length is written
 --     SamePlans, NeverSplits    the plan for any mtu and sizes of 32 bits; the branch that the port leaves out
---     SameNew                   N alone
---     SameHeaders               so the whole header bytes
---     EqualPayloads             where no length is of 128 or more and the two N are the same, payloads are equal byte for byte
---     SamePayloads              so they are wherever no length is of 128 or more
+--     SameLater                 whole header bytes, on every packet but packet 0: there alone N can differ
+--     EqualPayloads             where no length is of 128 or more and N of packet 0 is the same, payloads are equal byte for byte
 --     FieldsSame                a size field that we read
 --     SentAllowed               all of these hold of accepted units (W15)
 --     ListedSame, PlannedSame, SentSame   the same, by the answers of the list, plan and payload calls
@@ -25,7 +23,8 @@ use Rattle.packetizer.specs.Call.{mtuLimit, unitPlan, toPlan, planAnswer}
 use Rattle.packetizer.specs.Records.{noPacket}
 use Rattle.packetizer.specs.declared.PacketMetadata.{PacketMetadata}
 use Rattle.packetizer.specs.declared.Planned.{Planned}
-use Rattle.aggregation.specs.Header.{nOf, headerOf}
+use Rattle.aggregation.specs.New.{nOf}
+use Rattle.aggregation.specs.Header.{headerOf}
 use Rattle.payloader.specs.Payload.{payloadsOf}
 use Rattle.payloader.specs.Call.{toWrite, payloadAnswer}
 use Rattle.payloader.specs.declared.Payloads.{Payloads}
@@ -67,8 +66,8 @@ pub record SameHeader (mtu : ℕ) (unit : List ℕ) (k : ℕ) : Type 0 where
       «get_aggregation_header» (crateObus unit) (cratePackets (unitPlan mtu unit)) k
       ≡ ok (zywOf (obusOf unit) (getD (unitPlan mtu unit) k noPacket) + crateNew (crateObus unit) k)
   pub ours :
-      headerOf (obusOf unit) (unitPlan mtu unit) k
-      ≡ given (zywOf (obusOf unit) (getD (unitPlan mtu unit) k noPacket) + nOf (obusOf unit) k)
+      headerOf unit (obusOf unit) (unitPlan mtu unit) k
+      ≡ given (zywOf (obusOf unit) (getD (unitPlan mtu unit) k noPacket) + nOf unit (obusOf unit) k)
 
 pub record Same (mtu : ℕ) (unit : List ℕ) : Type 0 where
   pub list : «parse_obus» unit ≡ ok (crateObus unit)
@@ -76,7 +75,7 @@ pub record Same (mtu : ℕ) (unit : List ℕ) : Type 0 where
   pub headers : (k : ℕ) → k < length (unitPlan mtu unit) → SameHeader mtu unit k
   -- the same pieces, written by the crate and by us
   pub payloads : payload mtu unit ≡ ok (map (writtenBy (crateWriter (crateObus unit))) (piecesOf mtu unit))
-  pub ours : payloadsOf mtu unit ≡ map (writtenBy (ourWriter (obusOf unit))) (piecesOf mtu unit)
+  pub ours : payloadsOf mtu unit ≡ map (writtenBy (ourWriter unit (obusOf unit))) (piecesOf mtu unit)
 
 abbrev pub SameUnits : Type 0
 SameUnits = (mtu : ℕ) (unit : List ℕ) → Bytes unit → Allowed mtu unit → Same mtu unit
@@ -101,28 +100,21 @@ NeverSplits =
     (isLast : Bool) (room i s first : ℕ) (packets : List CratePacket) → 1 ≤ room
     → splitsLast isLast room (s - spreadOver room i s packets first .offset) ≡ false
 
--- ---- N, and what follows with it
+-- ---- N
 
+-- one byte, which both give on each packet after packet 0
+abbrev pub SameLater : Type 0
+SameLater =
+    (mtu : ℕ) (unit : List ℕ) → Bytes unit → Allowed mtu unit → (k : ℕ) → 1 ≤ k → k < length (unitPlan mtu unit)
+    → (h : ℕ) × («get_aggregation_header» (crateObus unit) (cratePackets (unitPlan mtu unit)) k ≡ ok h) × (headerOf unit (obusOf unit) (unitPlan mtu unit) k ≡ given h)
+
+-- on packet 0 N is the same in both
 abbrev pub NewAgrees : List ℕ → Type 0
-NewAgrees unit = (k : ℕ) → crateNew (crateObus unit) k ≡ nOf (obusOf unit) k
-
-abbrev pub SameNew : Type 0
-SameNew = (mtu : ℕ) (unit : List ℕ) → Bytes unit → Allowed mtu unit → NewAgrees unit
-
--- one byte, which both give
-abbrev pub SameHeaders : Type 0
-SameHeaders =
-    (mtu : ℕ) (unit : List ℕ) → Bytes unit → Allowed mtu unit → (k : ℕ) → k < length (unitPlan mtu unit)
-    → (h : ℕ) × («get_aggregation_header» (crateObus unit) (cratePackets (unitPlan mtu unit)) k ≡ ok h) × (headerOf (obusOf unit) (unitPlan mtu unit) k ≡ given h)
+NewAgrees unit = crateNew (crateObus unit) 0 ≡ nOf unit (obusOf unit) 0
 
 abbrev pub EqualPayloads : Type 0
 EqualPayloads =
     (mtu : ℕ) (unit : List ℕ) → Bytes unit → Allowed mtu unit → ShortPieces (piecesOf mtu unit) → NewAgrees unit
-    → payload mtu unit ≡ ok (payloadsOf mtu unit)
-
-abbrev pub SamePayloads : Type 0
-SamePayloads =
-    (mtu : ℕ) (unit : List ℕ) → Bytes unit → Allowed mtu unit → ShortPieces (piecesOf mtu unit)
     → payload mtu unit ≡ ok (payloadsOf mtu unit)
 
 -- ---- size fields: (value, bytes taken)

@@ -13,7 +13,8 @@ use Rattle.obu.specs.Wire.{wholeOf, wire, wireOf}
 use Rattle.packetizer.specs.Fragment.{largestFragment}
 use Rattle.packetizer.specs.Plan.{chargeOf, isFull, needOf, fragmentOf, spread, insert, place, planFrom, planOf}
 use Rattle.packetizer.specs.Elements.{elementsFrom}
-use Rattle.aggregation.specs.Header.{nOf, byteOf}
+use Rattle.aggregation.specs.New.{beforeFrame, fromFrame, nOf}
+use Rattle.aggregation.specs.Header.{byteOf}
 use Rattle.payloader.specs.Payload.{fielded, payload, payloadsFrom}
 use Rattle.element.specs.Elements.{elementAt, exactly, counting, elementsOf, payloadElements}
 use Rattle.handing.specs.Handing.{wires}
@@ -26,7 +27,7 @@ packets : List (List ℕ)
 packets = (0x50 ∷ 0x30 ∷ 0xa1 ∷ []) ∷ (0x90 ∷ 0xb2 ∷ []) ∷ []
 
 packets-are : fusedPackets ≡ packets
-unfolding packets flatMap keep fieldIn encodeIn headed frontOf streamFrom largestFragment chargeOf isFull needOf fragmentOf spread insert place planFrom planOf elementsFrom nOf byteOf fielded payload payloadsFrom
+unfolding packets flatMap keep fieldIn encodeIn headed frontOf streamFrom largestFragment chargeOf isFull needOf fragmentOf spread insert place planFrom planOf elementsFrom nOf beforeFrame fromFrame byteOf fielded payload payloadsFrom
 packets-are = refl
 
 abbrev outOf : List (List ℕ) → List ℕ

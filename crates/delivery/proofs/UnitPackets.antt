@@ -15,7 +15,6 @@ use borrow.Author.Tests.{lt-ltb, le-ltb, leb-true, leb-false, eqb-true}
 use Rattle.base.specs.Lists.{All}
 use Rattle.base.proofs.Tests.{by-cond, split-on}
 use Rattle.leb128.specs.Field.{encode, largestValue}
-use Rattle.obu.specs.Header.{typeOf}
 use Rattle.obu.specs.Unit.{obusOf}
 use Rattle.obu.specs.Records.{noObu}
 use Rattle.packetizer.specs.Plan.{leastMtu, mostCounted}
@@ -25,8 +24,9 @@ use Rattle.packetizer.specs.Laws.{Position, position, endsAt, Sound, Runs, star
 use Rattle.packetizer.specs.declared.PacketMetadata.{PacketMetadata}
 use Rattle.packetizer.proofs.Bodies.{elements-count}
 use Rattle.packetizer.proofs.Turns.{size-at}
+use Rattle.aggregation.specs.New.{newSequence, nOf}
 use Rattle.aggregation.specs.Header as header
-use Rattle.aggregation.specs.Header.{lastObu, lastStart, nOf, byteOf}
+use Rattle.aggregation.specs.Header.{lastObu, lastStart, byteOf}
 use Rattle.aggregation.proofs.Bits.{bit-z, bit-y, bits-w, bit-n}
 use Rattle.payloader.specs.Payload.{partOf, partsOf, fielded, payload, payloadsFrom}
 use Rattle.element.specs.Header.{wOf}
@@ -117,7 +117,7 @@ module _ (unit : List ℕ) (some : Positive (sizesOf unit)) (mtu : ℕ) where
     few = by-cond (λ (w : ℕ). w ≤ 3) (leb (p .«num_obu_elements») mostCounted) (p .«num_obu_elements») 0 (λ t. leb-true (p .«num_obu_elements») mostCounted t) (λ t. omega arith)
 
     -- packet k of its unit; N stands on packet 0 alone, which has no Z
-    carries : (k : ℕ) → mtu ≤ mtuLimit → leastMtu ≤ mtu → (k ≡ 0 → zAt p ≡ false) → Carries (byteOf (obusOf unit) p k) (fielded encode flag (elementsAt unit p)) (packetFor unit p)
+    carries : (k : ℕ) → mtu ≤ mtuLimit → leastMtu ≤ mtu → (k ≡ 0 → zAt p ≡ false) → Carries (byteOf unit (obusOf unit) p k) (fielded encode flag (elementsAt unit p)) (packetFor unit p)
     unfolding byteOf nOf
     carries k m l first =
         record {
@@ -129,7 +129,7 @@ module _ (unit : List ℕ) (some : Positive (sizesOf unit)) (mtu : ℕ) where
         }
       where
         n : Bool
-        n = eqb k 0 && eqb (typeOf (getD (obusOf unit) 0 noObu .header)) 1
+        n = eqb k 0 && newSequence unit (obusOf unit)
 
         not-both : zAt p && n ≡ false
         not-both = split-on (eqb k 0)

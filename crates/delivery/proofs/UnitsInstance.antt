@@ -14,7 +14,8 @@ use Rattle.packetizer.specs.Fragment.{largestFragment}
 use Rattle.packetizer.specs.Plan.{chargeOf, isFull, needOf, fragmentOf, spread, insert, place, planFrom, planOf}
 use Rattle.packetizer.specs.Elements.{elementsFrom}
 use Rattle.packetizer.specs.Call.{planAnswer}
-use Rattle.aggregation.specs.Header.{nOf, byteOf}
+use Rattle.aggregation.specs.New.{beforeFrame, fromFrame, nOf}
+use Rattle.aggregation.specs.Header.{byteOf}
 use Rattle.payloader.specs.Payload.{fielded, payload, payloadsFrom}
 use Rattle.payloader.specs.Call.{payloadAnswer}
 use Rattle.element.specs.Elements.{elementAt, exactly, counting, elementsOf, payloadElements}
@@ -41,7 +42,7 @@ sendings =
 
 packets : List (List ℕ)
 packets =
-    (0x58 ∷ 8 ∷ 0x11 ∷ [])
+    (0x50 ∷ 8 ∷ 0x11 ∷ [])
     ∷ (0x90 ∷ 0x22 ∷ 0x33 ∷ [])
     ∷ (0x50 ∷ 0x30 ∷ 0xa1 ∷ [])
     ∷ (0xd0 ∷ 0xa2 ∷ 0xa3 ∷ [])
@@ -52,11 +53,11 @@ packets =
     ∷ []
 
 payloads-are : payloadsSent sendings ≡ packets
-unfolding packets sendings sending flatMap keep fieldIn encodeIn headed frontOf streamFrom largestFragment chargeOf isFull needOf fragmentOf spread insert place planFrom planOf elementsFrom nOf byteOf fielded payload payloadsFrom
+unfolding packets sendings sending flatMap keep fieldIn encodeIn headed frontOf streamFrom largestFragment chargeOf isFull needOf fragmentOf spread insert place planFrom planOf elementsFrom nOf beforeFrame fromFrame byteOf fielded payload payloadsFrom
 payloads-are = refl
 
 accepted : All Accepted sendings
-unfolding sendings sending flatMap keep fieldIn encodeIn headed frontOf streamFrom listed largestFragment chargeOf isFull needOf fragmentOf spread insert place planFrom planOf elementsFrom nOf byteOf fielded payload payloadsFrom planAnswer payloadAnswer
+unfolding sendings sending flatMap keep fieldIn encodeIn headed frontOf streamFrom listed largestFragment chargeOf isFull needOf fragmentOf spread insert place planFrom planOf elementsFrom nOf beforeFrame fromFrame byteOf fielded payload payloadsFrom planAnswer payloadAnswer
 accepted = ((omega arith, tt), ((omega arith, tt), ((omega arith, tt), ((omega arith, tt), tt))))
 
 -- the largest kept OBU has 6 bytes and the largest mtu is 20: a store of 6 bytes, outputs of 86, which hold something

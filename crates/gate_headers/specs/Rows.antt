@@ -1,4 +1,4 @@
--- The records that the program runs the header call on, and what it expects.
+-- The records that the program runs the header call on, and what it expects of a unit.
 use Prim.Native.Nat.{ℕ, _+_}
 use mathlib.Core.List.{List, [], _∷_}
 use Rattle.base.specs.Answers.{Answer, given, refused}
@@ -8,8 +8,8 @@ use Rattle.packetizer.specs.Records.{packetsIn}
 use Rattle.packetizer.specs.declared.PacketMetadata.{PacketMetadata}
 use Rattle.aggregation.specs.Header.{headerOf}
 
-abbrev pub obuOf : ℕ → ℕ → Obu
-obuOf header size = record { header = header; extension = 0; start = 0; length = 0; size = size }
+abbrev pub obuOf : ℕ → ℕ → ℕ → ℕ → Obu
+obuOf header start length size = record { header = header; extension = 0; start = start; length = length; size = size }
 
 abbrev pub packetOf : ℕ → ℕ → ℕ → ℕ → ℕ → PacketMetadata
 packetOf first elements offset last start =
@@ -23,7 +23,7 @@ packetOf first elements offset last start =
     }
 
 abbrev pub obus : List Obu
-obus = obuOf 10 4 ∷ obuOf 50 6 ∷ obuOf 50 1 ∷ obuOf 50 1 ∷ []
+obus = obuOf 10 0 1 4 ∷ obuOf 50 1 1 6 ∷ obuOf 50 2 0 1 ∷ obuOf 50 0 2 1 ∷ []
 
 abbrev pub packets : List PacketMetadata
 packets =
@@ -31,7 +31,7 @@ packets =
 
 -- the same as numbers: the first header has a bit above its byte, and one more OBU is not finished
 abbrev pub obuNumbers : List ℕ
-obuNumbers = 266 ∷ 0 ∷ 0 ∷ 0 ∷ 4 ∷ 50 ∷ 0 ∷ 0 ∷ 0 ∷ 6 ∷ 50 ∷ 0 ∷ 0 ∷ 0 ∷ 1 ∷ 50 ∷ 0 ∷ 0 ∷ 0 ∷ 1 ∷ 50 ∷ 0 ∷ 0 ∷ 0 ∷ []
+obuNumbers = 266 ∷ 0 ∷ 0 ∷ 1 ∷ 4 ∷ 50 ∷ 0 ∷ 1 ∷ 1 ∷ 6 ∷ 50 ∷ 0 ∷ 2 ∷ 0 ∷ 1 ∷ 50 ∷ 0 ∷ 0 ∷ 2 ∷ 1 ∷ 50 ∷ 0 ∷ 0 ∷ 0 ∷ []
 
 abbrev pub packetNumbers : List ℕ
 packetNumbers =
@@ -42,8 +42,9 @@ abbrev pub codeOf : Answer ℕ → ℕ
 codeOf (given b) = b
 codeOf (refused n at) = 256 + n
 
-unfoldable pub ofRecords : ℕ → ℕ
-ofRecords k = codeOf (headerOf obus packets k)
+-- by what is lent as the unit
+unfoldable pub ofRecords : List ℕ → ℕ → ℕ
+ofRecords unit k = codeOf (headerOf unit obus packets k)
 
-unfoldable pub ofNumbers : ℕ → ℕ
-ofNumbers k = codeOf (headerOf (obusIn obuNumbers) (packetsIn packetNumbers) k)
+unfoldable pub ofNumbers : List ℕ → ℕ → ℕ
+ofNumbers unit k = codeOf (headerOf unit (obusIn obuNumbers) (packetsIn packetNumbers) k)

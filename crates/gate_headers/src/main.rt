@@ -1,4 +1,4 @@
-// The header call in both forms, run on the same records: every flag, four elements, and each way to R11.
+// The header call in both forms, run on the same records and units: every flag, four elements, and each way to R11.
 use aggregation::HeaderAnswer;
 use obu::Obu;
 use packetizer::PacketMetadata;
@@ -12,22 +12,22 @@ const OBUS: [u32; 24] = [
     266,
     0,
     0,
-    0,
+    1,
     4,
     50,
     0,
-    0,
-    0,
+    1,
+    1,
     6,
     50,
     0,
-    0,
+    2,
     0,
     1,
     50,
     0,
     0,
-    0,
+    2,
     1,
     50,
     0,
@@ -86,11 +86,21 @@ const PLAN: [u32; 48] = [
     4294967295,
 ];
 
-// Arrays by value, lent as slices: a function with plain parameters, so that its callers are covered.
-fn header_in(obus: [Obu; 4], packets: [PacketMetadata; 8], k: usize) -> HeaderAnswer
-    ensures { λ r. ⌜ paper r ≡ headerOf obus packets k ⌝ }
+// The payloads of a sequence header and of the frame header behind it: a shown key frame, another frame, and a reduced still picture; and a
+// unit that is too short for the frame header.
+const KEY: [u8; 2] = [0, 16];
+
+const OTHER: [u8; 2] = [0, 48];
+
+const REDUCED: [u8; 2] = [8, 255];
+
+const SHORT: [u8; 1] = [0];
+
+// Arrays of records by value, lent as slices: so its callers are covered.
+fn header_in(unit: &[u8], obus: [Obu; 4], packets: [PacketMetadata; 8], k: usize) -> HeaderAnswer
+    ensures { λ r. ⌜ paper r ≡ headerOf (now (unit .entry)) obus packets k ⌝ }
 {
-    aggregation::header_of(&obus, &packets, k)
+    aggregation::header_of(unit, &obus, &packets, k)
 }
 
 // The byte, or 256 plus the number of the refusal.
@@ -103,14 +113,14 @@ fn code(answer: HeaderAnswer) -> u64
     }
 }
 
-fn an_obu(header: u8, size: u32) -> Obu
-    ensures { λ r. ⌜ r ≡ obuOf header size ⌝ }
+fn an_obu(header: u8, start: u32, length: u32, size: u32) -> Obu
+    ensures { λ r. ⌜ r ≡ obuOf header start «length» size ⌝ }
 {
     Obu {
         header: header,
         extension: 0,
-        start: 0,
-        length: 0,
+        start: start,
+        length: length,
         size: size,
     }
 }
@@ -128,10 +138,15 @@ fn a_packet(first: u32, elements: u32, offset: u32, last: u32, start: u32) -> Pa
     }
 }
 
-fn by_records(k: usize) -> u64
-    ensures { λ r. ⌜ r ≡ ofRecords k ⌝ }
+fn by_records(unit: &[u8], k: usize) -> u64
+    ensures { λ r. ⌜ r ≡ ofRecords (now (unit .entry)) k ⌝ }
 {
-    let obus = [an_obu(10, 4), an_obu(50, 6), an_obu(50, 1), an_obu(50, 1)];
+    let obus = [
+        an_obu(10, 0, 1, 4),
+        an_obu(50, 1, 1, 6),
+        an_obu(50, 2, 0, 1),
+        an_obu(50, 0, 2, 1),
+    ];
     let packets = [
         a_packet(0, 1, 0, 2, 4294967294),
         a_packet(0, 1, 2, 2, 0),
@@ -142,32 +157,40 @@ fn by_records(k: usize) -> u64
         a_packet(0, 0, 0, 1, 0),
         a_packet(0, 1, 0, 2, 4294967295),
     ];
-    code(header_in(obus, packets, k))
+    code(header_in(unit, obus, packets, k))
 }
 
-fn by_numbers(k: usize) -> u64
-    ensures { λ r. ⌜ r ≡ ofNumbers k ⌝ }
+fn by_numbers(unit: &[u8], k: usize) -> u64
+    ensures { λ r. ⌜ r ≡ ofNumbers (now (unit .entry)) k ⌝ }
 {
     let obus = OBUS;
     let plan = PLAN;
-    code(aggregation::get_aggregation_header(&obus, &plan, k))
+    code(aggregation::get_aggregation_header(unit, &obus, &plan, k))
 }
 
-fn row(k: usize, value: u64)
-    requires { ⌜ (ofRecords k ≡ value) × (ofNumbers k ≡ value) ⌝ }
+fn row(unit: &[u8], k: usize, value: u64)
+    requires { ⌜ (ofRecords (now unit) k ≡ value) × (ofNumbers (now unit) k ≡ value) ⌝ }
 {
-    check::expect(by_records(k) == value);
-    check::expect(by_numbers(k) == value);
+    check::expect(by_records(unit, k) == value);
+    check::expect(by_numbers(unit, k) == value);
 }
 
 fn main() {
-    row(0, 0x58);
-    row(1, 0x90);
-    row(2, 0xD0);
-    row(3, 0xE0);
-    row(4, 0x00);
-    row(5, 267);
-    row(6, 267);
-    row(7, 267);
-    row(8, 267);
+    let key = KEY;
+    row(&key, 0, 0x58);
+    row(&key, 1, 0x90);
+    row(&key, 2, 0xD0);
+    row(&key, 3, 0xE0);
+    row(&key, 4, 0x00);
+    row(&key, 5, 267);
+    row(&key, 6, 267);
+    row(&key, 7, 267);
+    row(&key, 8, 267);
+    let other = OTHER;
+    row(&other, 0, 0x50);
+    let reduced = REDUCED;
+    row(&reduced, 0, 0x58);
+    let short = SHORT;
+    row(&short, 0, 267);
+    row(&short, 1, 267);
 }

@@ -1,4 +1,4 @@
--- A lawful train by example: the payloads of U7 and of U9, and one of another sender, with a padded length field; computed. Assumes nothing.
+-- A lawful train by example: the payloads of U7, the first with N, and of U9, and one of another sender, with a padded length field; computed. Assumes nothing.
 use mathlib.Core.Path.{_≡_, refl}
 use Prim.Native.Nat.{ℕ}
 use native.Mathlib.Omega.{arith}

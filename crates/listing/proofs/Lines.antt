@@ -14,7 +14,7 @@ use Rattle.packetizer.specs.Records.{planNumbers, noPacket, packetsIn}
 use Rattle.packetizer.specs.declared.PacketMetadata.{PacketMetadata}
 use Rattle.packetizer.specs.declared.Planned.{Planned}
 use Rattle.packetizer.proofs.Records.{plan-length, plan-part, packets-flat}
-use Rattle.aggregation.specs.Header.{byteOf, headerOf}
+use Rattle.aggregation.specs.Header.{Headed}
 use Rattle.aggregation.proofs.Headers.{byte-back}
 use Rattle.payloader.proofs.Packets.{packet-header}
 use Rattle.payloader.proofs.Calls.{accepted}
@@ -37,29 +37,28 @@ module _ {p : Place} {unit obus plan : List ℕ} (f : Filled p unit obus plan) w
   module _ {k : ℕ} (h : k < p .packets) where
     -- a packet has its header
     pub filled-headed :
-        headerOf (obusIn (take (p .obus * obuNumbers) obus)) (packetsIn (take (p .packets * planNumbers) plan)) k
-        ≡ given (byteOf (obusIn (take (p .obus * obuNumbers) obus)) (getD (packetsIn (take (p .packets * planNumbers) plan)) k noPacket) k)
+        Headed (unitIn p unit) (obusIn (take (p .obus * obuNumbers) obus)) (packetsIn (take (p .packets * planNumbers) plan)) k
     filled-headed =
         let u = unitIn p unit in
         let small : length u ≤ unitLimit = omega (arith, length-take (p .length) unit, f .within) in
         let there : k < length (unitPlan (p .mtu) u) = omega (arith, f .packets-are) in
         rw (f .obus-is, f .plan-is, packet-header (p .mtu) u k small there, obus-flat (obusOf u), packets-flat (unitPlan (p .mtu) u))
-        (ap given (sym (byte-back (obusOf u) (getD (unitPlan (p .mtu) u) k noPacket) k)))
+        (ap given (sym (byte-back u (obusOf u) (getD (unitPlan (p .mtu) u) k noPacket) k)))
 
     -- and its line is that of the unit's plan
     pub filled-row :
-        rowOf (obusIn (take (p .obus * obuNumbers) obus)) (packetsIn (take (p .packets * planNumbers) plan)) k
-        ≡ rowOf (obusOf (unitIn p unit)) (unitPlan (p .mtu) (unitIn p unit)) k
+        rowOf (unitIn p unit) (obusIn (take (p .obus * obuNumbers) obus)) (packetsIn (take (p .packets * planNumbers) plan)) k
+        ≡ rowOf (unitIn p unit) (obusOf (unitIn p unit)) (unitPlan (p .mtu) (unitIn p unit)) k
     filled-row =
         let u = unitIn p unit in
-        rw (f .obus-is, f .plan-is, obus-flat (obusOf u), packets-flat (unitPlan (p .mtu) u), byte-back (obusOf u) (getD (unitPlan (p .mtu) u) k noPacket) k)
+        rw (f .obus-is, f .plan-is, obus-flat (obusOf u), packets-flat (unitPlan (p .mtu) u), byte-back u (obusOf u) (getD (unitPlan (p .mtu) u) k noPacket) k)
 
 -- ---- after the plan call
 
-pub rows-count : (os : List Obu) (k : ℕ) (ps : List PacketMetadata) → length (rowsFrom os k ps) ≡ length ps
+pub rows-count : (unit : List ℕ) (os : List Obu) (k : ℕ) (ps : List PacketMetadata) → length (rowsFrom unit os k ps) ≡ length ps
 unfolding rowsFrom
-rows-count os k [] = refl
-rows-count os k (p ∷ ps) = ap suc (rows-count os (k + 1) ps)
+rows-count unit os k [] = refl
+rows-count unit os k (p ∷ ps) = ap suc (rows-count unit os (k + 1) ps)
 
 -- its answer goes by how much the lists hold
 answer-same : (mtu : ℕ) (unit obus obus′ plan plan′ : List ℕ) → length obus ≡ length obus′ → length plan ≡ length plan′
@@ -88,7 +87,7 @@ module _ (p : Place) (unit obus plan : List ℕ) (o : length obus ≡ obuListNum
     told-counts {q} e =
         told-none p got unit none ∙ ap (listingTold p) (listing-is e)
         ∙ ap (λ (n : ℕ). asks (counted p (q .obus) n) (countsText (q .obus) n) 0)
-        (rows-count (obusOf (unitIn p unit)) 0 (unitPlan (p .mtu) (unitIn p unit)) ∙ sym (accepted _ _ _ _ q e .packets))
+        (rows-count (unitIn p unit) (obusOf (unitIn p unit)) 0 (unitPlan (p .mtu) (unitIn p unit)) ∙ sym (accepted _ _ _ _ q e .packets))
 
 -- a byte is left over
 pub told-more : (p : Place) (got unit : List ℕ) → 0 < length got → furtherTold p got unit ≡ prints p badText

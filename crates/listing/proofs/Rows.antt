@@ -12,7 +12,8 @@ use Rattle.obu.specs.Front.{headed, frontOf}
 use Rattle.obu.specs.Unit.{listed}
 use Rattle.packetizer.specs.Plan.{chargeOf, isFull, needOf, fragmentOf, spread, insert, place, planFrom, planOf}
 use Rattle.packetizer.specs.Call.{planAnswer}
-use Rattle.aggregation.specs.Header.{nOf, byteOf}
+use Rattle.aggregation.specs.New.{beforeFrame, fromFrame, nOf}
+use Rattle.aggregation.specs.Header.{byteOf}
 use Rattle.turns.specs.Text.{decimalIn}
 use Rattle.listing.specs.Input.{headOf, inputOf}
 use Rattle.listing.specs.Row.{rowText}
@@ -28,7 +29,7 @@ case input prints = record { input = input; prints = prints }
 -- G13; a unit of no byte; another version, a cut head, a byte less, a byte more, a unit over the store; R7, R1
 cases : List Case
 cases =
-    case (1 ∷ 0 ∷ 5 ∷ 0 ∷ 0 ∷ 0 ∷ 5 ∷ 10 ∷ 1 ∷ 127 ∷ 50 ∷ 0 ∷ []) "obus 2\npackets 2\n0 0 1 0 2 2 18 0\n1 1 1 0 1 1 10 3\n"
+    case (1 ∷ 0 ∷ 5 ∷ 0 ∷ 0 ∷ 0 ∷ 5 ∷ 10 ∷ 1 ∷ 127 ∷ 50 ∷ 0 ∷ []) "obus 2\npackets 2\n0 0 1 0 2 2 10 0\n1 1 1 0 1 1 10 3\n"
     ∷ case (1 ∷ 0 ∷ 5 ∷ 0 ∷ 0 ∷ 0 ∷ 0 ∷ []) "obus 0\npackets 0\n"
     ∷ case (2 ∷ 0 ∷ 5 ∷ 0 ∷ 0 ∷ 0 ∷ 0 ∷ []) "bad input\n"
     ∷ case (1 ∷ 0 ∷ 5 ∷ 0 ∷ 0 ∷ 0 ∷ []) "bad input\n"
@@ -40,5 +41,5 @@ cases =
     ∷ []
 
 prints-all : map (λ (c : Case). planlistText (c .input)) cases ≡ map (λ (c : Case). ascii (c .prints)) cases
-unfolding cases case inputOf headOf valueAfter unitListing rowsFrom planAnswer listed streamFrom frontOf headed fieldIn keep planOf planFrom place isFull insert chargeOf needOf fragmentOf spread byteOf nOf encodeIn twoNumbers rowText decimalIn flatMap
+unfolding cases case inputOf headOf valueAfter unitListing rowsFrom planAnswer listed streamFrom frontOf headed fieldIn keep planOf planFrom place isFull insert chargeOf needOf fragmentOf spread byteOf nOf beforeFrame fromFrame encodeIn twoNumbers rowText decimalIn flatMap
 prints-all = refl

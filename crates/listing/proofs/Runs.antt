@@ -62,9 +62,9 @@ run-prints (suc n) h p text unit l = ap (also text []) (run-ends n (awaits p wai
 
 module _ (p : Place) (unit l : List ℕ) (count : p .packets ≡ length (unitPlan (p .mtu) (unitIn p unit))) where
   abbrev text-from : ℕ → List ℕ
-  text-from k = flatMap rowText (rowsFrom (obusOf (unitIn p unit)) k (drop k (unitPlan (p .mtu) (unitIn p unit))))
+  text-from k = flatMap rowText (rowsFrom (unitIn p unit) (obusOf (unitIn p unit)) k (drop k (unitPlan (p .mtu) (unitIn p unit))))
 
-  text-step : (k : ℕ) → k < p .packets → text-from k ≡ rowText (rowOf (obusOf (unitIn p unit)) (unitPlan (p .mtu) (unitIn p unit)) k) ++ text-from (k + 1)
+  text-step : (k : ℕ) → k < p .packets → text-from k ≡ rowText (rowOf (unitIn p unit) (obusOf (unitIn p unit)) (unitPlan (p .mtu) (unitIn p unit)) k) ++ text-from (k + 1)
   unfolding rowsFrom flatMap
   text-step k h = rw (add-one k, drop-cons (unitPlan (p .mtu) (unitIn p unit)) k noPacket (omega arith), add-one k)
 
@@ -91,7 +91,7 @@ module _ (p : Place) (unit l : List ℕ) (n : ℕ) (enough : listRecords + 1 ≤
   run-answer (refused k at) e = run-prints n (omega arith) p _ unit l
   run-answer (given q) e =
       let known = accepted _ _ _ _ q e in
-      let count : length (rowsOf (p .mtu) (unitIn p unit)) ≡ length (unitPlan (p .mtu) (unitIn p unit)) = rows-count _ 0 _ in
+      let count : length (rowsOf (p .mtu) (unitIn p unit)) ≡ length (unitPlan (p .mtu) (unitIn p unit)) = rows-count _ _ 0 _ in
       run-rows (counted p (q .obus) (length (rowsOf (p .mtu) (unitIn p unit)))) unit l count n 0 _ (omega arith)
       (omega (arith, known .packets, known .plan-room, length-replicate {A = ℕ} planListNumbers 0, count))
 

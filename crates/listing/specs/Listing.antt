@@ -20,12 +20,12 @@ pub data Listing : Type 0 where
   lists : ℕ → List Row → Listing
 
 -- the lines of packet k and all after it
-unfoldable pub rowsFrom : List Obu → ℕ → List PacketMetadata → List Row
-rowsFrom obus k [] = []
-rowsFrom obus k (p ∷ ps) = rowBy obus p k ∷ rowsFrom obus (k + 1) ps
+unfoldable pub rowsFrom : List ℕ → List Obu → ℕ → List PacketMetadata → List Row
+rowsFrom unit obus k [] = []
+rowsFrom unit obus k (p ∷ ps) = rowBy unit obus p k ∷ rowsFrom unit obus (k + 1) ps
 
 abbrev pub rowsOf : ℕ → List ℕ → List Row
-rowsOf mtu unit = rowsFrom (obusOf unit) 0 (unitPlan mtu unit)
+rowsOf mtu unit = rowsFrom unit (obusOf unit) 0 (unitPlan mtu unit)
 
 abbrev pub listedBy : ℕ → List ℕ → Answer Planned → Listing
 listedBy mtu unit (given p) = lists (p .obus) (rowsOf mtu unit)

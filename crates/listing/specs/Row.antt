@@ -12,8 +12,8 @@ use Rattle.aggregation.specs.Header.{byteOf}
 use Rattle.turns.specs.Text.{decimal, labelled}
 use Rattle.listing.specs.declared.Row.{Row}
 
-abbrev pub rowBy : List Obu → PacketMetadata → ℕ → Row
-rowBy obus p k =
+abbrev pub rowBy : List ℕ → List Obu → PacketMetadata → ℕ → Row
+rowBy unit obus p k =
     record {
       packet = k;
       «first_obu» = p .«first_obu_index»;
@@ -21,13 +21,13 @@ rowBy obus p k =
       «first_offset» = p .«first_obu_offset»;
       «last_size» = p .«last_obu_size»;
       «packet_size» = p .«packet_size»;
-      header = byteOf obus p k;
+      header = byteOf unit obus p k;
       start = p .«payload_start»;
     }
 
 -- the line of packet k
-abbrev pub rowOf : List Obu → List PacketMetadata → ℕ → Row
-rowOf obus packets k = rowBy obus (getD packets k noPacket) k
+abbrev pub rowOf : List ℕ → List Obu → List PacketMetadata → ℕ → Row
+rowOf unit obus packets k = rowBy unit obus (getD packets k noPacket) k
 
 -- a hexadecimal digit, in capitals: its letter in ASCII
 abbrev pub capital : ℕ → ℕ
@@ -40,7 +40,7 @@ twoDigits b = capital (b / 16) ∷ capital (b % 16) ∷ []
 abbrev pub column : ℕ → List ℕ
 column n = decimal n ++ ascii " "
 
--- `0 0 1 0 2 2 18 0` and a newline: these numbers, the header byte, and where the payload starts
+-- `0 0 1 0 2 2 10 0` and a newline: these numbers, the header byte, and where the payload starts
 abbrev pub rowNumbers : Row → List ℕ
 rowNumbers r =
     r .packet ∷ r .«first_obu» ∷ r .elements ∷ r .«first_offset» ∷ r .«last_size» ∷ r .«packet_size» ∷ []

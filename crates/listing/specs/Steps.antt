@@ -74,7 +74,7 @@ furtherTold p (b ∷ l) unit = listingTold p listing.bad
 abbrev pub rowTold : Place → ℕ → List ℕ → Told Place
 rowTold p k unit =
     cond (ltb k (p .packets))
-    (asks (awaits p (wait.Row (k + 1))) (rowText (rowOf (obusOf (unitIn p unit)) (unitPlan (p .mtu) (unitIn p unit)) k)) 0)
+    (asks (awaits p (wait.Row (k + 1))) (rowText (rowOf (unitIn p unit) (obusOf (unitIn p unit)) (unitPlan (p .mtu) (unitIn p unit)) k)) 0)
     (ends (awaits p wait.Nothing))
 
 -- after a read or a write that failed (G14): what was being read; a line, and then nothing more

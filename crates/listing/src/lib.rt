@@ -204,10 +204,10 @@ fn further_step(
     }
 }
 
-// The line of packet k, if there is one, from lists that hold the plan of some unit.
-fn row_step(place: Place, k: usize, obus: &[u32], plan: &[u32], out: &mut [u8]) -> Turn
-    requires { ⌜ ((u : List ℕ) × Filled place u (now obus) (now plan)) × (length (now out) ≡ lineBytes) ⌝ }
-    ensures { λ r. ⌜ ((u : List ℕ) → Filled place u (now (obus .entry)) (now (plan .entry)) → Writes (rowTold place k u) r (now (out .entry)) (now (out .exit))) ⌝ }
+// The line of packet k, if there is one, from lists that hold the plan of the unit.
+fn row_step(place: Place, k: usize, unit: &[u8], obus: &[u32], plan: &[u32], out: &mut [u8]) -> Turn
+    requires { ⌜ Filled place (now unit) (now obus) (now plan) × (length (now unit) ≡ unitStore) × (length (now out) ≡ lineBytes) ⌝ }
+    ensures { λ r. ⌜ Writes (rowTold place k (now (unit .entry))) r (now (out .entry)) (now (out .exit)) ⌝ }
 {
     let packets = place.packets;
     if packets <= k {
@@ -216,9 +216,10 @@ fn row_step(place: Place, k: usize, obus: &[u32], plan: &[u32], out: &mut [u8]) 
             order: turns::over(),
         };
     }
+    let length = place.length;
     let listed = place.obus * obu::OBU_NUMBERS;
     let planned = packets * packetizer::PLAN_NUMBERS;
-    let row = text::row_at(&obus[..listed], &plan[..planned], k);
+    let row = text::row_at(&unit[..length], &obus[..listed], &plan[..planned], k);
     let end = text::put_row(row, out);
     Turn {
         place: awaiting(place, Wait::Row(k + 1)),
@@ -277,7 +278,7 @@ pub fn step(
             Wait::Head => head_step(place, &input[..n], out),
             Wait::Unit => unit_step(place, &input[..n], unit, out),
             Wait::Further => further_step(place, &input[..n], unit, obus, plan, out),
-            Wait::Row(k) => row_step(place, k, obus, plan, out),
+            Wait::Row(k) => row_step(place, k, unit, obus, plan, out),
             Wait::Nothing => Turn {
                 place: place,
                 order: turns::over(),

@@ -3,12 +3,11 @@ use crate::Row;
 ghost use mathlib.Core.Path.{_≡_};
 ghost use Prim.Native.Nat.{_+_, _*_, _≤_, _<_};
 ghost use mathlib.Core.List.{flatMap};
-ghost use lib.ListN.{length, getD};
-ghost use Rattle.base.specs.Answers.{given};
+ghost use lib.ListN.{length};
 ghost use Rattle.base.specs.Lists.{Put};
 ghost use Rattle.obu.specs.Records.{obusIn};
-ghost use Rattle.packetizer.specs.Records.{planNumbers, noPacket, packetsIn};
-ghost use Rattle.aggregation.specs.Header.{byteOf, headerOf};
+ghost use Rattle.packetizer.specs.Records.{planNumbers, packetsIn};
+ghost use Rattle.aggregation.specs.Header.{Headed};
 ghost use Rattle.turns.specs.Text.{lineBytes, mostDigits};
 ghost use Rattle.listing.specs.Row.{rowOf, capital, column, twoDigits, rowText};
 ghost use Rattle.listing.specs.Listing.{twoNumbers};
@@ -16,13 +15,14 @@ ghost use Rattle.listing.specs.Steps.{Printed};
 
 // The line of packet k.
 // Helper: the plan must have a whole record k, and the header call give a header for it.
-pub fn row_at(obus: &[u32], plan: &[u32], k: usize) -> Row
+pub fn row_at(unit: &[u8], obus: &[u32], plan: &[u32], k: usize) -> Row
     requires { ⌜ (k + 1) * planNumbers ≤ length (now plan) ⌝ }
-    requires { ⌜ headerOf (obusIn (now obus)) (packetsIn (now plan)) k ≡ given (byteOf (obusIn (now obus)) (getD (packetsIn (now plan)) k noPacket) k) ⌝ }
-    ensures { λ r. ⌜ r ≡ rowOf (obusIn (now (obus .entry))) (packetsIn (now (plan .entry))) k ⌝ }
+    requires { ⌜ Headed (now unit) (obusIn (now obus)) (packetsIn (now plan)) k ⌝ }
+    ensures { λ r. ⌜ r ≡ rowOf (now (unit .entry)) (obusIn (now (obus .entry))) (packetsIn (now (plan .entry))) k ⌝ }
 {
     let p = packetizer::packet_at(plan, k);
-    let header = aggregation::header_byte(obus, plan, k);
+    let new = aggregation::new_at(unit, obus, k);
+    let header = aggregation::header_byte(obus, plan, k, new);
     Row {
         packet: k,
         first_obu: p.first_obu_index,

@@ -10,7 +10,8 @@ use Rattle.obu.specs.Unit.{listed}
 use Rattle.packetizer.specs.Fragment.{largestFragment}
 use Rattle.packetizer.specs.Plan.{chargeOf, isFull, needOf, fragmentOf, spread, insert, place, planFrom, planOf}
 use Rattle.packetizer.specs.Elements.{elementsFrom}
-use Rattle.aggregation.specs.Header.{nOf, byteOf}
+use Rattle.aggregation.specs.New.{beforeFrame, fromFrame, nOf}
+use Rattle.aggregation.specs.Header.{byteOf}
 use Rattle.payloader.specs.Payload.{fielded, payload, payloadsFrom}
 use Rattle.base.specs.BigEndian.{bigEndian, valueAfter}
 use Rattle.base.specs.Streams.{streamFrom}
@@ -39,12 +40,12 @@ inputs =
 
 trains :
     map packOf inputs
-    ≡ (1 ∷ 0 ∷ 5 ∷ 0xff ∷ 0xff ∷ 0x18 ∷ 8 ∷ 0x7f ∷ 0 ∷ 4 ∷ 0 ∷ 0 ∷ 0x10 ∷ 0x30 ∷ 0 ∷ 6 ∷ 0 ∷ 1 ∷ 0x10 ∷ 0x34 ∷ 8 ∷ 0xc1 ∷ [])
-    ∷ (1 ∷ 0 ∷ 5 ∷ 0xff ∷ 0xff ∷ 0x18 ∷ 8 ∷ 0x7f ∷ 0 ∷ 4 ∷ 0 ∷ 0 ∷ 0x10 ∷ 0x30 ∷ [])
-    ∷ (1 ∷ 0 ∷ 5 ∷ 0xff ∷ 0xff ∷ 0x18 ∷ 8 ∷ 0x7f ∷ 0 ∷ 4 ∷ 0 ∷ 0 ∷ 0x10 ∷ 0x30 ∷ [])
-    ∷ (1 ∷ 0 ∷ 5 ∷ 0xff ∷ 0xff ∷ 0x18 ∷ 8 ∷ 0x7f ∷ 0 ∷ 4 ∷ 0 ∷ 0 ∷ 0x10 ∷ 0x30 ∷ [])
-    ∷ (1 ∷ 0 ∷ 5 ∷ 0xff ∷ 0xff ∷ 0x18 ∷ 8 ∷ 0x7f ∷ 0 ∷ 4 ∷ 0 ∷ 0 ∷ 0x10 ∷ 0x30 ∷ [])
-    ∷ (1 ∷ 0 ∷ 5 ∷ 0xff ∷ 0xff ∷ 0x18 ∷ 8 ∷ 0x7f ∷ 0 ∷ 4 ∷ 0 ∷ 0 ∷ 0x10 ∷ 0x30 ∷ [])
+    ≡ (1 ∷ 0 ∷ 5 ∷ 0xff ∷ 0xff ∷ 0x10 ∷ 8 ∷ 0x7f ∷ 0 ∷ 4 ∷ 0 ∷ 0 ∷ 0x10 ∷ 0x30 ∷ 0 ∷ 6 ∷ 0 ∷ 1 ∷ 0x10 ∷ 0x34 ∷ 8 ∷ 0xc1 ∷ [])
+    ∷ (1 ∷ 0 ∷ 5 ∷ 0xff ∷ 0xff ∷ 0x10 ∷ 8 ∷ 0x7f ∷ 0 ∷ 4 ∷ 0 ∷ 0 ∷ 0x10 ∷ 0x30 ∷ [])
+    ∷ (1 ∷ 0 ∷ 5 ∷ 0xff ∷ 0xff ∷ 0x10 ∷ 8 ∷ 0x7f ∷ 0 ∷ 4 ∷ 0 ∷ 0 ∷ 0x10 ∷ 0x30 ∷ [])
+    ∷ (1 ∷ 0 ∷ 5 ∷ 0xff ∷ 0xff ∷ 0x10 ∷ 8 ∷ 0x7f ∷ 0 ∷ 4 ∷ 0 ∷ 0 ∷ 0x10 ∷ 0x30 ∷ [])
+    ∷ (1 ∷ 0 ∷ 5 ∷ 0xff ∷ 0xff ∷ 0x10 ∷ 8 ∷ 0x7f ∷ 0 ∷ 4 ∷ 0 ∷ 0 ∷ 0x10 ∷ 0x30 ∷ [])
+    ∷ (1 ∷ 0 ∷ 5 ∷ 0xff ∷ 0xff ∷ 0x10 ∷ 8 ∷ 0x7f ∷ 0 ∷ 4 ∷ 0 ∷ 0 ∷ 0x10 ∷ 0x30 ∷ [])
     ∷ (1 ∷ [])
     ∷ (1 ∷ [])
     ∷ (1 ∷ [])
@@ -52,7 +53,7 @@ trains :
     ∷ []
     ∷ []
     ∷ []
-unfolding inputs headIn lengthIn numbered numberAfter streamFrom bigEndian valueAfter listed frontOf headed fieldIn keep encodeIn planOf planFrom place insert spread fragmentOf needOf isFull chargeOf largestFragment elementsFrom nOf byteOf fielded payload payloadsFrom flatMap
+unfolding inputs headIn lengthIn numbered numberAfter streamFrom bigEndian valueAfter listed frontOf headed fieldIn keep encodeIn planOf planFrom place insert spread fragmentOf needOf isFull chargeOf largestFragment elementsFrom nOf beforeFrame fromFrame byteOf fielded payload payloadsFrom flatMap
 trains = refl
 
 said :
@@ -70,5 +71,5 @@ said :
     ∷ lineText subject.Input word.NoHead
     ∷ lineText subject.Input word.NoHead
     ∷ []
-unfolding inputs headIn lengthIn numbered numberAfter streamFrom bigEndian valueAfter listed frontOf headed fieldIn keep encodeIn planOf planFrom place insert spread fragmentOf needOf isFull chargeOf largestFragment elementsFrom nOf byteOf fielded payload payloadsFrom flatMap lineText decimalIn wordsOf words
+unfolding inputs headIn lengthIn numbered numberAfter streamFrom bigEndian valueAfter listed frontOf headed fieldIn keep encodeIn planOf planFrom place insert spread fragmentOf needOf isFull chargeOf largestFragment elementsFrom nOf beforeFrame fromFrame byteOf fielded payload payloadsFrom flatMap lineText decimalIn wordsOf words
 said = refl

@@ -1,3 +1,4 @@
 -- The laws of the payloads.
 pub mod Rows
+pub mod New
 pub mod Lengths

@@ -13,7 +13,8 @@ use Rattle.packetizer.specs.Fragment.{largestFragment}
 use Rattle.packetizer.specs.Plan.{chargeOf, isFull, needOf, fragmentOf, spread, insert, place, planFrom, planOf}
 use Rattle.packetizer.specs.Elements.{elementsFrom}
 use Rattle.packetizer.specs.Call.{planAnswer}
-use Rattle.aggregation.specs.Header.{nOf, byteOf}
+use Rattle.aggregation.specs.New.{beforeFrame, fromFrame, nOf}
+use Rattle.aggregation.specs.Header.{byteOf}
 use Rattle.payloader.specs.Payload.{fielded, payload, payloadsFrom, payloadsOf}
 use Rattle.payloader.specs.Call.{toWrite, payloadAnswer}
 use Rattle.payloader.specs.declared.Payloads.{Payloads}
@@ -39,10 +40,10 @@ pub rows : List Row
 rows =
     row 1200 [] (given [])
     ∷ row 2 (0x0a ∷ 1 ∷ 0x7f ∷ []) (given [])
-    ∷ row 3 (0x0a ∷ 1 ∷ 0x7f ∷ []) (given ((0x58 ∷ 8 ∷ []) ∷ (0x90 ∷ 0x7f ∷ []) ∷ []))
-    ∷ row 4 (0x0a ∷ 1 ∷ 0x7f ∷ []) (given ((0x18 ∷ 8 ∷ 0x7f ∷ []) ∷ []))
-    ∷ row 5 (0x0a ∷ 1 ∷ 0x7f ∷ 0x32 ∷ 0 ∷ []) (given ((0x18 ∷ 8 ∷ 0x7f ∷ []) ∷ (0x10 ∷ 0x30 ∷ []) ∷ []))
-    ∷ row 20 (0x12 ∷ 0 ∷ 0x0a ∷ 3 ∷ 0x11 ∷ 0x22 ∷ 0x33 ∷ 0x32 ∷ 5 ∷ 0xa1 ∷ 0xa2 ∷ 0xa3 ∷ 0xa4 ∷ 0xa5 ∷ []) (given ((0x28 ∷ 4 ∷ 8 ∷ 0x11 ∷ 0x22 ∷ 0x33 ∷ 0x30 ∷ 0xa1 ∷ 0xa2 ∷ 0xa3 ∷ 0xa4 ∷ 0xa5 ∷ []) ∷ []))
+    ∷ row 3 (0x0a ∷ 1 ∷ 0x7f ∷ []) (given ((0x50 ∷ 8 ∷ []) ∷ (0x90 ∷ 0x7f ∷ []) ∷ []))
+    ∷ row 4 (0x0a ∷ 1 ∷ 0x7f ∷ []) (given ((0x10 ∷ 8 ∷ 0x7f ∷ []) ∷ []))
+    ∷ row 5 (0x0a ∷ 1 ∷ 0x7f ∷ 0x32 ∷ 0 ∷ []) (given ((0x10 ∷ 8 ∷ 0x7f ∷ []) ∷ (0x10 ∷ 0x30 ∷ []) ∷ []))
+    ∷ row 20 (0x12 ∷ 0 ∷ 0x0a ∷ 3 ∷ 0x11 ∷ 0x22 ∷ 0x33 ∷ 0x32 ∷ 5 ∷ 0xa1 ∷ 0xa2 ∷ 0xa3 ∷ 0xa4 ∷ 0xa5 ∷ []) (given ((0x20 ∷ 4 ∷ 8 ∷ 0x11 ∷ 0x22 ∷ 0x33 ∷ 0x30 ∷ 0xa1 ∷ 0xa2 ∷ 0xa3 ∷ 0xa4 ∷ 0xa5 ∷ []) ∷ []))
     ∷ row 20 (0x32 ∷ 0 ∷ 0x32 ∷ 0 ∷ 0x32 ∷ 0 ∷ []) (given ((0x30 ∷ 1 ∷ 0x30 ∷ 1 ∷ 0x30 ∷ 0x30 ∷ []) ∷ []))
     ∷ row 20 (0x32 ∷ 0 ∷ 0x32 ∷ 0 ∷ 0x32 ∷ 0 ∷ 0x32 ∷ 0 ∷ []) (given ((0 ∷ 1 ∷ 0x30 ∷ 1 ∷ 0x30 ∷ 1 ∷ 0x30 ∷ 1 ∷ 0x30 ∷ []) ∷ []))
     ∷ row 3 (0x34 ∷ 8 ∷ []) (given ((0x50 ∷ 0x34 ∷ []) ∷ (0x90 ∷ 8 ∷ []) ∷ []))
@@ -54,5 +55,5 @@ rows =
     ∷ []
 
 pub table : map answered rows ≡ map (λ (r : Row). r .result) rows
-unfolding answered byAnswer row rows payloadAnswer planAnswer listed streamFrom frontOf headed fieldIn keep encodeIn planOf planFrom place insert spread fragmentOf needOf isFull chargeOf largestFragment elementsFrom nOf byteOf fielded payload payloadsFrom flatMap
+unfolding answered byAnswer row rows payloadAnswer planAnswer listed streamFrom frontOf headed fieldIn keep encodeIn planOf planFrom place insert spread fragmentOf needOf isFull chargeOf largestFragment elementsFrom nOf beforeFrame fromFrame byteOf fielded payload payloadsFrom flatMap
 table = refl

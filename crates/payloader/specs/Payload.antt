@@ -32,7 +32,7 @@ fielded write last (e ∷ f ∷ es) = (write (length e) ++ e) ++ fielded write l
 -- Y1: the aggregation header of packet k, and then the elements of its record
 unfoldable pub payload : (ℕ → List ℕ) → List ℕ → List Obu → ℕ → PacketMetadata → List ℕ
 payload write unit obus k p =
-    byteOf obus p k
+    byteOf unit obus p k
     ∷ fielded write (ltb mostCounted (p .«num_obu_elements»))
     (partsOf unit obus (elementsOf (sizes obus) p))
 

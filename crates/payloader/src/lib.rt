@@ -99,23 +99,24 @@ fn put_element(
     put_part(unit, o, from, n, out, at)
 }
 
-// Writes packet k of a unit's plan at the cursor `at`, and returns the cursor after it.
+// Writes packet k of a unit's plan, on which N is set if `new` says so, at the cursor `at`, and returns the cursor after it.
 fn write_packet(
     mtu: usize,
     unit: &[u8],
     obus: &[u32],
     plan: &[u32],
     k: usize,
+    new: bool,
     out: &mut [u8],
     at: usize,
 ) -> usize
     requires { ⌜ Lent mtu (now unit) (now obus) (now plan) ⌝ }
-    requires { ⌜ Writable mtu (now unit) k (now out) at ⌝ }
+    requires { ⌜ Writable mtu (now unit) k new (now out) at ⌝ }
     ensures { λ r. ⌜ (r ≡ at + length (payloadAt mtu (now (unit .entry)) k))
         × (now (out .exit) ≡ sets (now (out .entry)) at (payloadAt mtu (now (unit .entry)) k)) ⌝ }
 {
     let p = packetizer::packet_at(plan, k);
-    out[at] = aggregation::header_byte(obus, plan, k);
+    out[at] = aggregation::header_byte(obus, plan, k, new);
     let mut cursor = at + 1;
     let mut left = p.num_obu_elements as usize;
     let mut i = p.first_obu_index as usize;
@@ -146,17 +147,19 @@ fn planned_bytes(plan: &[u32]) -> usize
     p.payload_start as usize + p.packet_size as usize + 1
 }
 
-// Writes all packets of a unit's plan, each where its record says that it starts.
+// Writes all packets of a unit's plan, each where its record says that it starts. N is looked for once.
 fn write_packets(mtu: usize, unit: &[u8], obus: &[u32], plan: &[u32], out: &mut [u8])
     requires { ⌜ Lent mtu (now unit) (now obus) (now plan) ⌝ }
     requires { ⌜ length (joined (payloadsOf mtu (now unit))) ≤ length (now out) ⌝ }
     ensures { λ _. ⌜ now (out .exit) ≡ sets (now (out .entry)) 0 (joined (payloadsOf mtu (now (unit .entry)))) ⌝ }
 {
     let packets = plan.len() / packetizer::PLAN_NUMBERS;
+    let mut new = aggregation::new_at(unit, obus, 0);
     let mut k: usize = 0;
     while k < packets {
         let p = packetizer::packet_at(plan, k);
-        write_packet(mtu, unit, obus, plan, k, out, p.payload_start as usize);
+        write_packet(mtu, unit, obus, plan, k, new, out, p.payload_start as usize);
+        new = false;
         k += 1;
     }
 }

@@ -73,9 +73,9 @@ payloads =
     ))
 
 -- the header call in its two forms: the same records, the same answer
-pub same-header : (a b : HeaderAnswer) (os : List Obu) (ps : List PacketMetadata) (k : ℕ)
-    → paper a ≡ headerOf (obusIn (flat os)) (packetsIn (flatPlan ps)) k → paper b ≡ headerOf os ps k → a ≡ b
-same-header a b os ps k e f = header-one a b (e ∙ alike os ps k ∙ sym f)
+pub same-header : (a b : HeaderAnswer) (unit : List ℕ) (os : List Obu) (ps : List PacketMetadata) (k : ℕ)
+    → paper a ≡ headerOf unit (obusIn (flat os)) (packetsIn (flatPlan ps)) k → paper b ≡ headerOf unit os ps k → a ≡ b
+same-header a b unit os ps k e f = header-one a b (e ∙ alike unit os ps k ∙ sym f)
 
 pub walk-elements : Settled walkElements.ended (λ M. walkElements.clauses)
 walk-elements =

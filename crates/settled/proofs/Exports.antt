@@ -38,7 +38,7 @@ pub header-of : Settled header.ended (λ M. header.clauses)
 header-of =
     settles header.ended _ _ _ (λ M 𝓤 H A mem run κs a. refl) (λ κs a x y p q. (
       meet (p .0) (q .0),
-      λ i. (tt, (tt, (tt, (meet (p .1) (q .1) i, tt)))),
+      λ i. (tt, (tt, (tt, (tt, (meet (p .1) (q .1) i, tt))))),
     ))
 
 pub payloads : Settled payload.ended (λ M. payload.clauses)

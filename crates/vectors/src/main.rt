@@ -205,8 +205,8 @@ fn print_between(k: usize) {
 }
 
 // The aggregation header of packet k, by the header call.
-fn print_header(obus: &[u32], plan: &[u32], k: usize) {
-    match aggregation::get_aggregation_header(obus, plan, k) {
+fn print_header(unit: &[u8], obus: &[u32], plan: &[u32], k: usize) {
+    match aggregation::get_aggregation_header(unit, obus, plan, k) {
         HeaderAnswer::Header(header) => {
             print_chunk(&[header]);
         }
@@ -217,12 +217,12 @@ fn print_header(obus: &[u32], plan: &[u32], k: usize) {
     }
 }
 
-fn print_headers(obus: &[u32], plan: &[u32]) {
+fn print_headers(unit: &[u8], obus: &[u32], plan: &[u32]) {
     let packets = plan.len() / packetizer::PLAN_NUMBERS;
     let mut k: usize = 0;
     while k < packets {
         print_between(k);
-        print_header(obus, plan, k);
+        print_header(unit, obus, plan, k);
         k += 1;
     }
 }
@@ -255,7 +255,7 @@ fn first(list: &[u32], n: usize) -> &[u32] {
 }
 
 // What was written: of the two lists the filled parts count.
-fn print_written(written: Payloads, obus: &[u32], plan: &[u32], output: &[u8]) {
+fn print_written(written: Payloads, unit: &[u8], obus: &[u32], plan: &[u32], output: &[u8]) {
     let listed = base::smaller(written.obus, LIST_STORE) * obu::OBU_NUMBERS;
     let planned = base::smaller(written.packets, LIST_STORE) * packetizer::PLAN_NUMBERS;
     let obus = first(obus, listed);
@@ -268,7 +268,7 @@ fn print_written(written: Payloads, obus: &[u32], plan: &[u32], output: &[u8]) {
     print_records(plan, packetizer::PLAN_NUMBERS);
     if written.packets > 0 {
         io::write_all(STDOUT_FILENO, b" headers");
-        print_headers(obus, plan);
+        print_headers(unit, obus, plan);
         io::write_all(STDOUT_FILENO, b" payloads");
         print_payloads(plan, output);
     }
@@ -278,7 +278,7 @@ fn print_written(written: Payloads, obus: &[u32], plan: &[u32], output: &[u8]) {
 fn answer(mtu: usize, unit: &[u8], obus: &mut [u32], plan: &mut [u32], output: &mut [u8]) {
     match payloader::payload(mtu, unit, obus, plan, output) {
         PayloadAnswer::Written(written) => {
-            print_written(written, obus, plan, output);
+            print_written(written, unit, obus, plan, output);
         }
         PayloadAnswer::Refused { refusal, at } => {
             io::write_all(STDOUT_FILENO, b"refused ");

@@ -1,3 +1,7 @@
+use mathlib.Core.Path.{ap, _∙_}
+use Prim.Native.Nat.{ℕ}
+use mathlib.Core.Bool.{Bool, cond}
+use Rattle.aggregation.specs.New.{nOf}
 use Rattle.aggregation.proofs.Laws.{or-byte}
 use borrow.Author.Needs.{needs}
 use Rattle.aggregation.proofs.header_bits.Statement.{statement}
@@ -16,10 +20,11 @@ n-bit-requires : tie.Need-n-bit-requires
 n-bit-requires c κs = search needs
 
 returns : tie.Need-returns
-returns c = λ obus s t.
+unfolding nOf
+returns c = λ unit obus k s new.
     let a = c .before .before .before .before .args in
-    let e = c .n-bit .ensures obus t in
-    cc (or-byte obus (a .p) (a .k))
+    let e = c .n-bit .ensures ∙ ap (λ (b : Bool). cond {A = ℕ} b 8 0) new in
+    cc (or-byte unit obus (a .p) k)
 
 pub header-bits-spec : {M : Type 1} → statement M
 header-bits-spec =

@@ -8,13 +8,13 @@ by-records-requires : tie.Need-by-records-requires
 by-records-requires c κs = search needs
 
 expect-requires : tie.Need-expect-requires
-expect-requires c κs = eq-eqb _ _ (c .by-records .ensures ∙ c .before .pre .0)
+expect-requires c κs = eq-eqb _ _ (c .by-records .ensures ∙ c .before .before .pre .0)
 
 by-numbers-requires : tie.Need-by-numbers-requires
 by-numbers-requires c κs = search needs
 
 expect-requires-2 : tie.Need-expect-requires-2
-expect-requires-2 c κs = eq-eqb _ _ (c .by-numbers .ensures ∙ c .before .before .before .pre .1)
+expect-requires-2 c κs = eq-eqb _ _ (c .by-numbers .ensures ∙ c .before .before .before .before .pre .1)
 
 returns : tie.Need-returns
 returns c = search needs

@@ -79,10 +79,10 @@ enum-known-wait c = search needs
 
 row-step-requires : tie.Need-row-step-requires
 row-step-requires c κs =
-    let at-wait = c .before .before .before .before in
+    let at-wait = c .before .before .before .before .before in
     let at-start = at-wait .before .before .before .before .before .before .before .before .before .before .before in
     let a = at-start .args in
-    ((a .unit .now, ready-at (a .place) (a .unit .now) (a .obus .now) (a .plan .now) (at-wait .wait .given .1) (at-start .pre .ready)), at-start .pre .out-is)
+    (ready-at (a .place) (a .unit .now) (a .obus .now) (a .plan .now) (at-wait .wait .given .1) (at-start .pre .ready), at-start .pre .unit-is, at-start .pre .out-is)
 
 enum-told-6 : tie.Need-enum-told-6
 enum-told-6 c = search needs
@@ -170,14 +170,17 @@ same-length-11 c = search needs
 same-length-12 : tie.Need-same-length-12
 same-length-12 c = search needs
 
+same-length-13 : tie.Need-same-length-13
+same-length-13 c = search needs
+
 returns-6 : tie.Need-returns-6
 returns-6 c =
-    let at-wait = c .before .before .before .before .before .before .before in
+    let at-wait = c .before .before .before .before .before .before .before .before in
     let at-came = at-wait .before .before .before in
     let at-start = start-of-came at-came in
     let a = at-start .args in
     let f = ready-at (a .place) (a .unit .now) (a .obus .now) (a .plan .now) (at-wait .wait .given .1) (at-start .pre .ready) in
-    let t = c .before .before .row-step .ensures (a .unit .now) f in
+    let t = c .before .before .row-step .ensures in
     stepped (a .place) (a .came) _ (wait.Row _) (a .input .now) (a .unit .now) (a .line .now) (a .obus .now) (a .plan .now) (at-came .came .given .1) (at-wait .wait .given .1) t refl
     (ready-told (a .unit .now) (a .obus .now) (a .plan .now) t (ready-row (a .unit .now) (a .obus .now) (a .plan .now) (a .place) _ f))
 
@@ -229,5 +232,6 @@ step-spec =
     same-length-10
     same-length-11
     same-length-12
+    same-length-13
     returns-6
     returns-7)

@@ -4,7 +4,8 @@ use native.Mathlib.Omega.{arith}
 use borrow.Author.Needs.{needs}
 use mathlib.Core.List.{List}
 use lib.ListN.{length, getD, length-set}
-use lib.Dec.{ltb}
+use mathlib.Core.Bool.{_&&_}
+use lib.Dec.{ltb, eqb}
 use Rattle.obu.specs.Records.{obuNumbers, obusIn, noObu}
 use Rattle.obu.specs.Unit.{obusOf}
 use Rattle.obu.specs.Laws.{Bytes, Lies}
@@ -15,6 +16,7 @@ use Rattle.packetizer.specs.Records.{packetsIn, noPacket}
 use Rattle.packetizer.specs.Call.{unitPlan}
 use Rattle.packetizer.specs.declared.PacketMetadata.{PacketMetadata}
 use Rattle.packetizer.proofs.Records.{plan-length, packets-flat}
+use Rattle.aggregation.specs.New.{newSequence}
 use Rattle.aggregation.specs.Header.{byteOf}
 use Rattle.payloader.specs.Payload.{payloadAt}
 use Rattle.payloader.proofs.Bodies.{Writing, writing-room, writing-next, last-fits, writing-last}
@@ -23,11 +25,11 @@ use Rattle.payloader.proofs.write_packet.Statement.{statement}
 use Rattle.payloader.proofs.write_packet.Tie as tie
 
 abbrev Inv-loop : tie.InvT-loop
-Inv-loop mtu unit obus plan k out₀ at p cursor₀ left₀ i₀ from₀ out cursor left i from =
+Inv-loop mtu unit obus plan k new out₀ at p cursor₀ left₀ i₀ from₀ out cursor left i from =
     Writing unit (obusOf unit) (ltb mostCounted (p .«num_obu_elements»)) (p .«last_obu_size») (elementsBy unit p) out₀ cursor₀ out i from left cursor
 
 abbrev μ-loop : tie.MeasureT-loop
-μ-loop mtu unit obus plan k out₀ at p cursor₀ left₀ i₀ from₀ out cursor left i from = left
+μ-loop mtu unit obus plan k new out₀ at p cursor₀ left₀ i₀ from₀ out cursor left i from = left
 
 -- ---- the places: the record is read; its header is written; a turn of the loop; the last element
 
@@ -73,10 +75,11 @@ are-obus c = ap obusIn (start c .pre .0 .obus-is) ∙ unit-flat (unit c) (bytes 
 is-header :
     (c : tie.After-header-byte Inv-loop μ-loop) →
     c .header-byte .result
-    ≡ byteOf (obusOf (unit (c .before))) (getD (unitPlan (start (c .before) .args .mtu) (unit (c .before))) (start (c .before) .args .k) noPacket) (start (c .before) .args .k)
+    ≡ byteOf (unit (c .before)) (obusOf (unit (c .before))) (getD (unitPlan (start (c .before) .args .mtu) (unit (c .before))) (start (c .before) .args .k) noPacket) (start (c .before) .args .k)
 is-header c =
-    c .header-byte .ensures
-    ∙ ap₂ (λ (os : List Obu) (p : PacketMetadata). byteOf os p (start (c .before) .args .k)) (are-obus (c .before)) (sym (c .before .packet-at .ensures) ∙ is-packet (c .before))
+    c .header-byte .ensures (unit (c .before))
+    (start (c .before) .pre .1 .new-is ∙ ap (λ (os : List Obu). eqb (start (c .before) .args .k) 0 && newSequence (unit (c .before)) os) (sym (are-obus (c .before))))
+    ∙ ap₂ (λ (os : List Obu) (p : PacketMetadata). byteOf (unit (c .before)) os p (start (c .before) .args .k)) (are-obus (c .before)) (sym (c .before .packet-at .ensures) ∙ is-packet (c .before))
 
 is-obu : (c : tie.After-obu-at Inv-loop μ-loop) → c .obu-at .result ≡ obu (c .before .before)
 is-obu c = c .obu-at .ensures ∙ ap (λ (os : List Obu). getD os (c .before .before .loop .i) noObu) (are-obus (headed (c .before .before) .before))
@@ -112,7 +115,7 @@ header-byte-requires : tie.Need-header-byte-requires Inv-loop μ-loop
 header-byte-requires c κs =
     let a = start c .args in
     let p = start c .pre in
-    packet-headed (a .mtu) (a .unit .now) (a .k) (p .0 .small) (p .1 .there) (bytes c) (p .0)
+    (a .unit .now, packet-headed (a .mtu) (a .unit .now) (a .k) (p .0 .small) (p .1 .there) (bytes c) (p .0))
 
 slice-write-out : tie.Need-slice-write-out Inv-loop μ-loop
 slice-write-out c = omega (arith, start (c .before) .pre .1 .room, payload-long (start (c .before)))

@@ -4,10 +4,10 @@ use Rattle.vectors.proofs.print_headers.Statement.{statement}
 use Rattle.vectors.proofs.print_headers.Tie as tie
 
 abbrev Inv-loop : tie.InvT-loop
-Inv-loop obus plan packets k₀ k = Unit {0}
+Inv-loop unit obus plan packets k₀ k = Unit {0}
 
 abbrev μ-loop : tie.MeasureT-loop
-μ-loop obus plan packets k₀ k = packets - k
+μ-loop unit obus plan packets k₀ k = packets - k
 
 loop-holds : tie.Need-loop-holds Inv-loop μ-loop
 loop-holds c = search needs
