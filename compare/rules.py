@@ -20,7 +20,7 @@ FIELD_BYTES = 8                 # L5, bytes of a size field
 FIELD_VALUE = 4_294_967_295     # L6, value of a size field
 STORE_BYTES = 32_768            # L12 and L15, unit store of pack and planlist, fragment store of unpack
 LIST_RECORDS = 512              # L13, OBU list and plan list of pack and planlist
-OUTPUT_BYTES = 65_536           # L14, output of pack and unpack
+OUTPUT_BYTES = 65_536           # L14, room of pack for a packet, output of unpack
 OBU_NUMBERS = 5                 # L16, numbers of an OBU record in a flat list
 PLAN_NUMBERS = 6                # L16, numbers of a plan record in a flat list
 END_LIMIT = 4_294_967_295       # L17, where a payload of a plan ends in the output
@@ -55,6 +55,7 @@ WORDS = {                       # G7, what a refusal says in brackets on standar
     21: "no train of a known version",
     22: "the train ends inside a record",
     23: "a record's length is below 3",
+    31: "the list or the plan is not that of this unit",
 }
 
 
@@ -343,33 +344,64 @@ def pieces(unit, obus, packet, memo):
     return found
 
 
+def payload_of(unit, obus, plan, k, memo):
+    """Y1, Y4. The payload of packet k."""
+    made = bytearray([header_byte(unit, obus, plan[k], k)])
+    for has_length, part in pieces(unit, obus, plan[k], memo):
+        if has_length:
+            made += write_field(len(part))
+        made += part
+    return bytes(made)
+
+
 def payloads(unit, obus, plan):
     """Y1, Y4. The payload of every packet, in order."""
-    memo, made = {}, []
-    for k, packet in enumerate(plan):
-        out = bytearray([header_byte(unit, obus, packet, k)])
-        for has_length, part in pieces(unit, obus, packet, memo):
-            if has_length:
-                out += write_field(len(part))
-            out += part
-        made.append(bytes(out))
-    return made
+    memo = {}
+    return [payload_of(unit, obus, plan, k, memo) for k in range(len(plan))]
 
 
-def payload(mtu, unit, obus, plan, out):
-    """The payload call (C2, C5 to C7, Y5): fills lists and output, gives their counts, or R1 to R10."""
-    count, packets = plan_unit(mtu, unit, obus, plan)
-    made = b"".join(payloads(unit, records(obus[:OBU_NUMBERS * count], Obu, OBU_NUMBERS),
-                             records(plan[:PLAN_NUMBERS * packets], Packet, PLAN_NUMBERS)))
+def same_lists(mtu, unit, obus, plan):
+    """R31, C2. The kept OBUs and the plan of this unit and mtu, or R1 to R7; or R31, if the lent flat lists do not begin with them.
+
+    What stands in the lists behind these records is not looked at.
+    """
+    if mtu > MTU_LIMIT:
+        raise Refused(1)
+    kept = kept_obus(unit)
+    packets = plan_of([obu.size for obu in kept], mtu)
+    for lent, own in ((obus, kept), (plan, packets)):
+        numbers = [number for record in own for number in record]
+        if lent[:len(numbers)] != numbers:
+            raise Refused(31)
+    return kept, packets
+
+
+def put(out, made):
+    """R10, C7, C10. Bytes written to the front of an output: how many, or R10 and nothing written."""
     if len(made) > len(out):
         raise Refused(10)
     out[:len(made)] = made
-    return count, packets, len(made)
+    return len(made)
 
 
-def payload_in(out, packet):
-    """P13, P16. A packet's payload in a filled output."""
-    return bytes(out[packet.start:packet.start + packet.size + 1])
+def write_packet(mtu, unit, obus, plan, k, out):
+    """The writing call (C2, C7, C10, Y5): packet k alone, into the output. Gives its bytes; or R1 to R7, R31, R11, R10."""
+    kept, packets = same_lists(mtu, unit, obus, plan)
+    if k >= len(packets):
+        raise Refused(11)
+    return put(out, payload_of(unit, kept, packets, k, {}))
+
+
+def write_packets(mtu, unit, obus, plan, first, count, out):
+    """The writing call for a run: so many packets from one on, one after the other, and R10 by all of them together.
+
+    R11 if one of them is missing; of no packets none is.
+    """
+    kept, packets = same_lists(mtu, unit, obus, plan)
+    if count > 0 and first + count > len(packets):
+        raise Refused(11)
+    memo = {}
+    return put(out, b"".join([payload_of(unit, kept, packets, k, memo) for k in range(first, first + count)]))
 
 
 # ---- elements of a payload
@@ -557,14 +589,16 @@ def pack_steps(source):
             yield Said("%s: cut" % of)
             return
         obus, plan = [0] * (OBU_NUMBERS * LIST_RECORDS), [0] * (PLAN_NUMBERS * LIST_RECORDS)
-        out = bytearray(OUTPUT_BYTES)
         try:
-            _, packets, _ = payload(mtu, unit, obus, plan, out)
+            count, packets = plan_unit(mtu, unit, obus, plan)
         except Refused as bad:
             yield refused(of, bad.number)
             return
-        for packet in records(plan[:PLAN_NUMBERS * packets], Packet, PLAN_NUMBERS):
-            yield Written(of, train_record(number, payload_in(out, packet)))
+        out = bytearray(OUTPUT_BYTES)
+        for made in payloads(unit, records(obus[:OBU_NUMBERS * count], Obu, OBU_NUMBERS),
+                             records(plan[:PLAN_NUMBERS * packets], Packet, PLAN_NUMBERS)):
+            size = put(out, made)                   # never R10: a payload is no longer than the mtu (P13), and L2 is below L14
+            yield Written(of, train_record(number, bytes(out[:size])))
             number = (number + 1) % 65_536
 
 
@@ -670,7 +704,8 @@ def records_text(records):
 def vectors_line(mtu, obu_numbers, plan_numbers, out_bytes, unit):
     """What `vectors` answers to one case: an mtu, lent lists of so many numbers, an output of so many bytes, a unit.
 
-    The payload call (C2) in its order; the lent slices themselves are not made here, since only their lengths count.
+    The plan call (C2), then the writing call for packet after packet, each into the whole output; the lent slices themselves are not
+    made here, since only their lengths count.
     """
     try:
         if mtu > MTU_LIMIT:
@@ -680,7 +715,7 @@ def vectors_line(mtu, obu_numbers, plan_numbers, out_bytes, unit):
         if len(plan) > plan_numbers // PLAN_NUMBERS:
             raise Refused(9)
         made = payloads(unit, kept, plan)
-        if sum(map(len, made)) > out_bytes:
+        if any(len(p) > out_bytes for p in made):
             raise Refused(10)
     except Refused as bad:
         return "refused %d %d" % (bad.number, bad.offset)
@@ -717,15 +752,21 @@ def answer(call, *args):
         return [bad.number, bad.offset]
 
 
+def written(call, *args):
+    """What a writing call writes into an output of so many bytes, the last of the arguments."""
+    *args, space = args
+    out = bytearray(space)
+    return bytes(out[:call(*args, out)])
+
+
 def shown(mtu, unit):
     """The payloads of a unit as the rules' table shows them, or its refusal."""
-    obus, plan, out = [0] * 4096, [0] * 4096, bytearray(4096)
+    obus, plan, unit = [0] * 4096, [0] * 4096, bytes.fromhex(unit)
     try:
-        _, packets, _ = payload(mtu, bytes.fromhex(unit), obus, plan, out)
+        _, packets = plan_unit(mtu, unit, obus, plan)
+        return " / ".join(written(write_packet, mtu, unit, obus, plan, k, 4096).hex(" ").upper() for k in range(packets))
     except Refused as bad:
         return "%d at %d" % (bad.number, bad.offset)
-    rows = records(plan[:PLAN_NUMBERS * packets], Packet, PLAN_NUMBERS)
-    return " / ".join(payload_in(out, packet).hex(" ").upper() for packet in rows)
 
 
 LONG = "12 00 0A 03 11 22 33 32 05 A1 A2 A3 A4 A5"
@@ -839,8 +880,12 @@ def test_list(t):
         ("3 0 0 0 12007A00", "obus 0 packets 0"), ("65534 0 0 0 36", "refused 1 0"), ("3 5 5 9 3200", "refused 9 0"),
         ("3 5 6 1 3200", "refused 10 0"),
         ("3 5 6 2 3200*2", "obus 1 50,0,2,0,1 packets 1 0,1,0,1,1,0 headers 10 payloads 1030"),
-        ("3 5 11 6 3001*4", "refused 9 0"), ("3 5 12 5 3001*4", "refused 10 0"),
-        ("3 5 12 6 3001*4", "obus 1 48,0,1,3,4 packets 2 0,1,0,2,2,0;0,1,2,2,2,3 headers 50,90 payloads 503001,900101"),
+        ("3 5 11 6 3001*4", "refused 9 0"), ("3 5 12 2 3001*4", "refused 10 0"),
+        ("3 5 12 3 3001*4", "obus 1 48,0,1,3,4 packets 2 0,1,0,2,2,0;0,1,2,2,2,3 headers 50,90 payloads 503001,900101"),
+        # the first, the last of two is the longer one
+        ("5 10 12 2 0A017F3200", "refused 10 0"), ("5 15 12 3 0A017F32003200", "refused 10 0"),
+        ("5 15 12 4 0A017F32003200", "obus 3 10,0,2,1,2;50,0,5,0,1;50,0,7,0,1 packets 2 0,1,0,2,2,0;1,2,0,1,3,3 headers 10,20 "
+         "payloads 10087F,20013030"),
     ]:
         t.same("vectors, %s" % case, vectors(case + "\n"), want + "\n")
 
@@ -882,7 +927,7 @@ def test_law(t):
 
 
 def test_vectors(t):
-    """vectors_line says what the payload call and the header call leave in lent slices."""
+    """vectors_line says what plan call, writing call and header call leave in lent slices."""
     rng = random.Random(5)
     for _ in range(2000):
         unit = b"".join(bytes([rng.choice([0x0A, 0x12, 0x32])]) + write_field(n) + bytes([rng.choice([0, 8, 16])]) * n for n in
@@ -891,33 +936,145 @@ def test_vectors(t):
         space = [rng.choice([n, width * rng.randrange(8)]) for n, width in ((400, OBU_NUMBERS), (4800, PLAN_NUMBERS), (4000, 5))]
         obus, plan, out = [7] * space[0], [7] * space[1], bytearray(space[2])
         try:
-            count, packets, _ = payload(mtu, unit, obus, plan, out)
+            count, packets = plan_unit(mtu, unit, obus, plan)
+            made = [bytes(out[:write_packet(mtu, unit, obus, plan, k, out)]) for k in range(packets)]
             obus, plan = obus[:OBU_NUMBERS * count], plan[:PLAN_NUMBERS * packets]
             rows = records(plan, Packet, PLAN_NUMBERS)
             want = "obus %s packets %s" % (records_text(records(obus, Obu, OBU_NUMBERS)), records_text(rows))
             if packets:
                 want += " headers %s payloads %s" % (
                     ",".join("%02X" % get_aggregation_header(unit, obus, plan, k) for k in range(packets)),
-                    ",".join(payload_in(out, r).hex().upper() for r in rows))
+                    ",".join(p.hex().upper() for p in made))
         except Refused as bad:
             want = "refused %d %d" % (bad.number, bad.offset)
         t.same("vectors_line for %s, mtu %d" % (unit.hex(), mtu), vectors_line(mtu, *space, unit), want)
 
 
+PACKED = bytes.fromhex("0A 01 7F 32 00")                                 # at mtu 5 a packet of 3 bytes and one of 2
+PACKED_LIST, PACKED_PLAN = [0x0A, 0, 2, 1, 2, 0x32, 0, 5, 0, 1], [0, 1, 0, 2, 2, 0, 1, 1, 0, 1, 1, 3]
+GOOD, HUGE = (PACKED, PACKED_LIST, PACKED_PLAN), 2 ** 64 - 1
+
+
 def test_left(t):
-    """C5 to C7, C9: what each refusal of the payload call leaves in the lent slices."""
-    unit = bytes.fromhex("0A 01 7F 32 00")
-    full_list, full_plan = [0x0A, 0, 2, 1, 2, 0x32, 0, 5, 0, 1], [0, 1, 0, 2, 2, 0, 1, 1, 0, 1, 1, 3]
-    for mtu, list_numbers, plan_numbers, out_bytes, want in [
-        (65_534, 10, 12, 5, ([1, 0], False, False, False)), (5, 9, 12, 5, ([8, 3], False, False, False)),
-        (5, 10, 11, 5, ([9, 0], True, False, False)), (5, 10, 12, 4, ([10, 0], True, True, False)),
-        (5, 10, 12, 5, ((2, 2, 5), True, True, True)),
+    """C5, C6, C9: what each refusal of the plan call leaves in the lent slices."""
+    for mtu, list_numbers, plan_numbers, want in [
+        (65_534, 10, 12, ([1, 0], False, False)), (5, 9, 12, ([8, 3], False, False)), (5, 10, 11, ([9, 0], True, False)),
+        (5, 10, 12, ((2, 2), True, True)),
     ]:
-        obus, plan, out = [7] * list_numbers, [7] * plan_numbers, bytearray([7] * out_bytes)
-        got = answer(payload, mtu, unit, obus, plan, out)
-        t.same("left by %r" % (want[0],), (got, obus, plan, out), (
-            want[0], full_list if want[1] else [7] * list_numbers, full_plan if want[2] else [7] * plan_numbers,
-            bytearray.fromhex("10 08 7F 10 30") if want[3] else bytearray([7] * out_bytes)))
+        obus, plan = [7] * list_numbers, [7] * plan_numbers
+        got = answer(plan_unit, mtu, PACKED, obus, plan)
+        t.same("left by %r" % (want[0],), (got, obus, plan), (
+            want[0], PACKED_LIST if want[1] else [7] * list_numbers, PACKED_PLAN if want[2] else [7] * plan_numbers))
+
+
+def writing(t, what, want, call, mtu, lent, *which):
+    """A row of a writing call on unit, list and plan; behind which packets the bytes of the output.
+
+    `want` is a refusal's number, its offset 0; number and offset; or what is written, at the front. Nothing else changes.
+    """
+    *which, space = which
+    unit, *lists = lent
+    given, out = [list(numbers) for numbers in lists], bytearray(b"\xEE" * space)
+    got = answer(call, mtu, unit, *given, *which, out)
+    want = [want, 0] if type(want) is int else want
+    made = bytes.fromhex(want) if type(want) is str else b""
+    t.same("%s, %s" % (call.__name__, what), (got, given, bytes(out)),
+           (want if type(want) is list else len(made), lists, made + b"\xEE" * (space - len(made))))
+
+
+def writing_one(t, what, want, mtu, lent, k, space):
+    """The same row for packet k alone and for a run of one."""
+    writing(t, what, want, write_packet, mtu, lent, k, space)
+    writing(t, what, want, write_packets, mtu, lent, k, 1, space)
+
+
+def test_writing(t):
+    """C2, C7, R10, R11: which packet or run, and the space for it."""
+    for k, want, size in ((0, "10 08 7F", 3), (1, "10 30", 2)):
+        for space in (size, size + 4):
+            writing_one(t, "packet %d into %d" % (k, space), want, 5, GOOD, k, space)
+        for space in (0, size - 1):
+            writing_one(t, "10 by packet %d alone, %d" % (k, space), 10, 5, GOOD, k, space)
+    for k in (2, 3, HUGE):
+        for space in (0, 9):
+            writing_one(t, "11 before 10, packet %d into %d" % (k, space), 11, 5, GOOD, k, space)
+    whole = "10 08 7F 10 30"
+    for first, count, space, want in [
+        (0, 2, 5, whole), (0, 2, 9, whole), (0, 2, 4, 10), (0, 2, 3, 10), (0, 2, 0, 10), (0, 3, 9, 11), (0, 3, 0, 11), (1, 2, 9, 11),
+        (2, 1, 9, 11), (HUGE, 1, 9, 11), (HUGE, HUGE, 9, 11), (0, HUGE, 9, 11), (0, 0, 0, ""), (1, 0, 9, ""), (2, 0, 9, ""), (3, 0, 0, ""),
+        (HUGE, 0, 0, ""),
+    ]:
+        writing(t, "%d from %d on into %d" % (count, first, space), want, write_packets, 5, GOOD, first, count, space)
+    # 1 to 7 before 31, 11 and 10, also where no packet is asked for; 3 to 7 with their offset
+    for what, want, mtu, unit in [
+        ("1 before 3", 1, 65_534, b"\x36"), ("1 before 31", 1, 65_534, PACKED), ("2", 2, 5, bytes(UNIT_LIMIT + 1)),
+        *(("%d" % number, [number, 5], 5, PACKED + bytes.fromhex(end))
+          for number, end in ((3, "36"), (4, "32"), (5, "32 FF"), (6, "32 80 80 80 80 10"), (7, "32 01"))),
+    ]:
+        writing_one(t, what, want, mtu, (unit, [], []), 9, 0)
+        writing(t, what + ", no packet", want, write_packets, mtu, (unit, [], []), 0, 0, 0)
+
+
+def test_differ(t):
+    """R31: lists of another mtu or unit, a number changed, shorter ones; before 11 and 10. What stands behind is not looked at."""
+    for mtu in (3, 6, 65_533):
+        writing_one(t, "31, a plan of mtu 5 at %d" % mtu, 31, mtu, GOOD, 0, 9)
+    writing_one(t, "mtu 4 has the plan of mtu 5", "10 08 7F", 4, GOOD, 0, 9)
+    writing_one(t, "31, another unit", 31, 5, (PACKED + b"\x32\x00", *GOOD[1:]), 0, 9)
+    writing_one(t, "31, lists in each other's place", 31, 5, (PACKED, PACKED_PLAN, PACKED_LIST), 0, 9)
+    for which, own in ((1, PACKED_LIST), (2, PACKED_PLAN)):
+        def lent(numbers):
+            return *GOOD[:which], numbers, *GOOD[which + 1:]
+        for place, number in enumerate(own):
+            for other in (number ^ 1, number ^ 1 << 31, number + 256):
+                row = lent([*own[:place], other, *own[place + 1:]])
+                writing_one(t, "31, list %d, number %d is %d" % (which, place, other), 31, 5, row, 0, 9)
+            writing_one(t, "31, list %d of %d numbers, not 8 or 9" % (which, place), 31, 5, lent(own[:place]), 0, 9)
+        writing_one(t, "31 before 11 and 10, list %d" % which, 31, 5, lent(own[:-1]), 9, 0)
+        writing(t, "31, list %d, no packet" % which, 31, write_packets, 5, lent(own[:-1]), 0, 0, 0)
+        for n in (1, 4, 5, 6, 12, 13):
+            row = lent(own + [2 ** 32 - 1] * n)
+            writing_one(t, "%d numbers behind list %d" % (n, which), "10 30", 5, row, 1, 2)
+            writing_one(t, "11, %d numbers behind list %d" % (n, which), 11, 5, row, 2, 2)
+
+
+def test_no_packets(t):
+    """R11 without packets: an mtu below 3, nothing kept, no byte. Of the plan then nothing is looked at; of the list all that is due."""
+    for mtu, unit, obus in [*((mtu, PACKED, PACKED_LIST) for mtu in (0, 1, 2)), (5, b"\x12\x00", []), (5, b"", []), (0, b"", [])]:
+        for k in (0, 1, HUGE):
+            writing_one(t, "11 without packets", 11, mtu, (unit, obus, []), k, 0)
+            writing_one(t, "11 without packets, numbers behind", 11, mtu, (unit, obus + [9] * 5, PACKED_PLAN), k, 9)
+            writing(t, "none of no packets", "", write_packets, mtu, (unit, obus, []), k, 0, 0)
+    for mtu in (0, 2):
+        writing_one(t, "31 at mtu %d" % mtu, 31, mtu, (PACKED, PACKED_LIST[:-1], []), 0, 9)
+
+
+def test_apart(t):
+    """Every packet alone, in any order, into an output that just holds it; runs of them; all of them: the payloads of the unit."""
+    rng = random.Random(7)
+    for _ in range(700):
+        unit = b"".join(bytes([rng.choice([0x0A, 0x12, 0x32])]) + write_field(n) + bytes([rng.choice([0, 8, 16])]) * n for n in
+                        [rng.choice([0, 0, 1, 2, 5, rng.randrange(40), 130]) for _ in range(rng.randrange(1, 7))])
+        mtu = rng.choice([2, 3, 4, 5, 7, 20, 150])
+        obus, plan, name = [9] * 32, [9] * 3000, "%s, mtu %d" % (unit.hex(), mtu)
+        _, packets = plan_unit(mtu, unit, obus, plan)
+        kept = kept_obus(unit)
+        rows = plan_of([o.size for o in kept], mtu)
+        want, alone, given = payloads(unit, kept, rows), {}, (mtu, unit, obus, plan)
+        for k in rng.sample(range(packets), packets):
+            alone[k] = written(write_packet, *given, k, rows[k].size + 1)
+            t.same("10 for %d of %s" % (k, name), answer(write_packet, *given, k, bytearray(rows[k].size)), [10, 0])
+        whole = written(write_packets, *given, 0, packets, sum(map(len, want)))
+        t.same("alone, %s" % name, alone, dict(enumerate(want)))
+        t.same("all, %s" % name, (whole, [whole[row.start:row.start + row.size + 1] for row in rows]), (b"".join(want), want))
+        first = rng.randrange(packets + 1)
+        part = want[first:first + rng.randrange(4)]
+        size = sum(map(len, part))
+        t.same("from %d on, %s" % (first, name), written(write_packets, *given, first, len(part), size), b"".join(part))
+        if part:
+            t.same("10 from %d on, %s" % (first, name), answer(write_packets, *given, first, len(part), bytearray(size - 1)), [10, 0])
+        t.same("11 for %s" % name, (answer(write_packet, *given, packets, bytearray(999)),
+                                    answer(write_packets, *given, first, packets - first + 1, bytearray(999))), ([11, 0], [11, 0]))
 
 
 def test_header(t):
@@ -1151,7 +1308,7 @@ def test_programs(t):
     two = bytes.fromhex("00 00 00 28") + b"\x32\x26" + bytes(38) + bytes.fromhex("00 00 00 03 36 08 00")
     t.same("unpack after pack", outputs("unpack", outputs("pack", bytes.fromhex("01 00 09 FF FE") + two)[0]),
            (b"\x32\x26" + bytes(38) + bytes.fromhex("36 08 00"), b""))
-    t.same("words of each refusal", (sorted(WORDS), len(set(WORDS.values()))), (list(range(1, 24)), 23))
+    t.same("words of each refusal", (sorted(WORDS), len(set(WORDS.values()))), ([*range(1, 24), 31], 24))
 
 
 def test_failures(t):
@@ -1192,8 +1349,8 @@ def test_failures(t):
 
 def self_test():
     t = Test()
-    for test in (test_fields, test_list, test_plan, test_law, test_vectors, test_left, test_header, test_inside, test_new,
-                 test_elements, test_receiver, test_delivery, test_programs, test_failures):
+    for test in (test_fields, test_list, test_plan, test_law, test_vectors, test_left, test_writing, test_differ, test_no_packets,
+                 test_apart, test_header, test_inside, test_new, test_elements, test_receiver, test_delivery, test_programs, test_failures):
         test(t)
     print("%d rows, %d do not hold" % (t.rows, t.failed))
     return 1 if t.failed else 0

@@ -1,7 +1,7 @@
 """The units that are compared: made the same at each run, by fixed seeds and by counting.
 
-A case is a kind, how many numbers the lent OBU list and the lent plan list have, how many bytes the lent output has, an
-mtu, and the unit. `cases()` gives all of them.
+A case is a kind, how many numbers the lent OBU list and the lent plan list have, how many bytes the lent output has, into
+which each packet is written alone, an mtu, and the unit. `cases()` gives all of them.
 This file makes bytes; it knows nothing of what the rules or the crate answer.
 """
 import itertools
@@ -101,7 +101,7 @@ def lent(dice, unit, count):
 
 
 def rest(unit, mtu):
-    """Numbers of the plan list and bytes of the output: eight times in ten ample, else one of them near what the unit may need.
+    """Numbers of the plan list and bytes of the output: eight times in ten ample, else one of them less than the unit may need in all.
 
     Decided by the unit's own bytes, so that units and lists stay the same at each run.
     """
@@ -262,6 +262,15 @@ def odd_field(dice, length):
     return field(dice.pick((2 ** 31, 2 ** 28, 2 ** 21 - 1, 200, length + 1, length + 2)), dice.between(1, 8))
 
 
+def tight():
+    """Well-formed units with an output of about a packet's length, often a byte or two below the mtu."""
+    dice = Dice(28)
+    while True:
+        unit, mtu = unit_of(dice, lengths_of(dice)), dice.pick((dice.between(3, 24), dice.between(3, 24), dice.between(3, 200)))
+        output = dice.pick((mtu + 1, mtu, mtu, mtu - 1, mtu - 1, mtu - 2, dice.below(mtu), dice.below(mtu)))
+        yield Case("tight", MOST_NUMBERS, mtu, unit, MOST_NUMBERS, output)
+
+
 def fields():
     """Units with an odd size field, good OBUs before it and behind it."""
     dice = Dice(25)
@@ -337,6 +346,7 @@ KINDS = [  # name, how many, the cases, whether there are more
     ("edge", 8_000, edge, True),
     ("many", 2_500, many, True),
     ("large", 400, large, True),
+    ("tight", 10_000, tight, True),
     ("fields", 25_000, fields, True),
     ("damaged", 60_000, damaged, True),
     ("at the limit", 29, at_limit, False),

@@ -16,8 +16,8 @@
  * OBU that is in neither. No receiver can tell. So each train is given to a state of its own, fresh at its start, and trains are
  * never joined, neither as files nor packet by packet.
  *
- * FOR INSPECTION ONLY. The OBU list and the plan say where things stand in one unit and in its payloads. They are there to be looked
- * at and checked; no position from them goes into an export. What leaves the house is trains.
+ * FOR INSPECTION ONLY. The OBU list and the plan say where things stand in one unit and in its payloads. They are there for the calls
+ * that write its packets, and to be looked at and checked; no position from them goes into an export. What leaves the house is trains.
  *
  * ANSWERS. A call returns 0, or the number of a refusal, and fills four words:
  *   answer[0]       the offset that a refusal carries (R2 to R8: of the OBU's header byte in the unit), else 0
@@ -46,7 +46,7 @@ extern "C" {
 
 /* The refusals, and what each leaves in what was lent. The first that applies is given. */
 enum av1rtp_refusal {
-    /* list, plan, payload: these leave everything as it was */
+    /* list, plan, write_packet, write_packets: these leave everything as it was */
     AV1RTP_MTU_OVER_LIMIT = 1,    /* mtu above its limit */
     AV1RTP_UNIT_OVER_LIMIT = 2,   /* unit longer than its limit */
     AV1RTP_EXTENSION_MISSING = 3, /* extension bit set, and no second header byte */
@@ -55,14 +55,15 @@ enum av1rtp_refusal {
     AV1RTP_SIZE_TOO_LARGE = 6,    /* a size field of more than 8 bytes, or of a value above 4294967295 */
     AV1RTP_PAYLOAD_PAST_UNIT = 7, /* an OBU's payload ends after the unit does */
     AV1RTP_OBU_LIST_FULL = 8,     /* no whole record is free in the OBU list for this kept OBU */
-    /* leaves the OBU list filled, plan and output as they were */
+    /* plan: leaves the OBU list filled, the plan as it was */
     AV1RTP_PLAN_LIST_FULL = 9,    /* the plan has more records than the plan list */
-    /* leaves OBU list and plan filled, the output as it was */
-    AV1RTP_NO_ROOM_FOR_PAYLOADS = 10, /* the payloads together are longer than the output */
-    /* header */
-    AV1RTP_NO_USABLE_PACKET = 11, /* no record k, or one of no element, or with OBUs beyond the list, or whose payload start, packet
-                                   * size and 1 add up to more than 4294967295; or, for any k, an OBU record whose payload start and
-                                   * payload length add up to more than the unit's length */
+    /* write_packet, write_packets: this and their 11 and 31 leave everything as it was */
+    AV1RTP_NO_ROOM_FOR_PAYLOADS = 10, /* packet k, or the packets asked for together, are longer than the output */
+    /* header, write_packet, write_packets */
+    AV1RTP_NO_USABLE_PACKET = 11, /* header: no record k, or one of no element, or with OBUs beyond the list, or whose payload start,
+                                   * packet size and 1 add up to more than 4294967295; or, for any k, an OBU record whose payload start
+                                   * and payload length add up to more than the unit's length
+                                   * write_packet, write_packets: the unit has no packet k, or not all packets asked for */
     /* receive: these leave state, store and output as they were. element gives 13, 15, 16 and 17 */
     AV1RTP_STATE_IMPOSSIBLE = 12, /* the state's open length is above the store's length or the fragment's limit */
     AV1RTP_PAYLOAD_LENGTH = 13,   /* payload empty or over its limit */
@@ -76,7 +77,9 @@ enum av1rtp_refusal {
     /* trains */
     AV1RTP_TRAIN_VERSION = 21,    /* empty, or of another version than 1 */
     AV1RTP_TRAIN_CUT = 22,        /* ends inside a record */
-    AV1RTP_RECORD_TOO_SHORT = 23  /* a record that states a length below 3 */
+    AV1RTP_RECORD_TOO_SHORT = 23, /* a record that states a length below 3 */
+    /* write_packet, write_packets: given after 1 to 7 and before 11 and 10 */
+    AV1RTP_LISTS_DIFFER = 31      /* list or plan is not the one that this unit and mtu give: a number differs, or they are shorter */
 };
 
 /* ---- sending */
@@ -87,17 +90,31 @@ enum av1rtp_refusal {
 uint32_t av1rtp_list(const uint8_t *unit, size_t unit_length, uint32_t *obus, size_t obus_length, size_t answer[4]);
 
 /* The same, and the plan: which bytes of which kept OBUs go into which packet, and where its payload starts among all payloads, as
- * records of AV1RTP_PLAN_NUMBERS numbers, first in `plan`. There are at most as many records as the kept OBUs have bytes.
+ * records of AV1RTP_PLAN_NUMBERS numbers, first in `plan`. There are at most as many records as the kept OBUs have bytes; lists of as
+ * many records as the unit has bytes always do. The writing calls below take list and plan from here.
  * answer: offset, OBUs, packets. Refusals 1 to 9. */
 uint32_t av1rtp_plan(size_t mtu, const uint8_t *unit, size_t unit_length, uint32_t *obus, size_t obus_length, uint32_t *plan,
                      size_t plan_length, size_t answer[4]);
 
-/* The same, and the payloads, one right after the other from the start of `out`. That of packet k starts in `out` at the last number
- * of plan record k, and has 1 byte more than the packet size before it, and at most mtu bytes. Lists of as many records as the unit
- * has bytes always do.
- * answer: offset, OBUs, packets, bytes. Refusals 1 to 10. */
-uint32_t av1rtp_payload(size_t mtu, const uint8_t *unit, size_t unit_length, uint32_t *obus, size_t obus_length, uint32_t *plan,
-                        size_t plan_length, uint8_t *out, size_t out_length, size_t answer[4]);
+/* Writes the payload of packet k, counted from 0, first in `out`, from the list and plan that av1rtp_plan gave for this mtu and unit.
+ * It has 1 byte more than the packet size in plan record k, and at most mtu bytes: an output of mtu bytes holds any packet. Packets may
+ * be written in any order, each as often as wanted. What packet 0, 1, .. have, one after the other, is all that the unit becomes.
+ * The lists may be lent longer than their filled part: what stands behind the unit's own records is not looked at. Every call walks
+ * over the unit and the records to see that list and plan are its own (31); to write many packets at once, av1rtp_write_packets does
+ * so once.
+ * answer: offset, bytes. Refusals 1 to 7, then 31, 11, 10: never 8 or 9. A refusal writes nothing. */
+uint32_t av1rtp_write_packet(size_t mtu, const uint8_t *unit, size_t unit_length, const uint32_t *obus, size_t obus_length,
+                             const uint32_t *plan, size_t plan_length, size_t k, uint8_t *out, size_t out_length, size_t answer[4]);
+
+/* The same for packets first to first + count - 1: their payloads one right after the other from the start of `out`, each as
+ * av1rtp_write_packet writes it. List and plan are looked at once. Packet k stands in `out` at the payload start of its record less that
+ * of record `first`, so the output needs the bytes from the first one's payload start to the end of the last one (payload start, packet
+ * size and 1). With first 0 and count the packets that av1rtp_plan answered, that is all payloads of the unit. If count is 0, nothing is
+ * written, whatever `first` is.
+ * answer: offset, bytes. Refusals 1 to 7, then 31, 11, 10: never 8 or 9. A refusal writes nothing. */
+uint32_t av1rtp_write_packets(size_t mtu, const uint8_t *unit, size_t unit_length, const uint32_t *obus, size_t obus_length,
+                              const uint32_t *plan, size_t plan_length, size_t first, size_t count, uint8_t *out, size_t out_length,
+                              size_t answer[4]);
 
 /* The aggregation header of packet k, from any unit, OBU list and plan. The lists are as long as they are lent: lend the filled part,
  * which is AV1RTP_OBU_NUMBERS times the OBUs and AV1RTP_PLAN_NUMBERS times the packets of the answer. An old record behind it would

@@ -1,10 +1,11 @@
-//! Times the payload call of the static library beside that of the crate, and the receive call beside a plain copy.
+//! Times plan and packets of the static library, lent and through the safe crate, beside the payload call of the crate, and the receive
+//! call beside a plain copy.
 //!
 //!     bench time ROUNDS     a line `time WORK SIDE NANOSECONDS` for each work and side: the least time of a call
 //!     bench count           under callgrind: dumps the instructions of one call of each, under the name `WORK SIDE`
 //!
-//! WORK is four words: `pay` or `back`, the unit's bytes, its OBUs, the mtu. `pay` has the sides `ours` and `crate`, `back` the sides
-//! `ours` and `copy`.
+//! WORK is four words: `pay` or `back`, the unit's bytes, its OBUs, the mtu. `pay` has the sides `ours`, `safe` and `crate`, `back` the
+//! sides `ours` and `copy`.
 mod codecs;
 mod count;
 mod work;
@@ -37,7 +38,7 @@ const MTUS: [usize; 3] = [100, 1200, 65_533];
 
 type Side = (&'static str, fn(&mut Work));
 
-const PAY: [Side; 2] = [("ours", Work::ours), ("crate", Work::theirs)];
+const PAY: [Side; 3] = [("ours", Work::ours), ("safe", Work::safe), ("crate", Work::theirs)];
 const BACK: [Side; 2] = [("ours", Work::back), ("copy", Work::copy)];
 
 /// Unit bytes, OBUs, mtu: every size with every count of OBUs of at least five bytes at every mtu; then bytes that grow from 1 KB to
@@ -96,7 +97,7 @@ fn main() {
     };
     for (size, obus, mtu) in points() {
         let mut work = Work::new(size, obus, mtu);
-        for (kind, sides) in [("pay", &PAY), ("back", &BACK)] {
+        for (kind, sides) in [("pay", &PAY[..]), ("back", &BACK[..])] {
             let name = format!("{kind} {size} {obus} {mtu}");
             match rounds {
                 Some(rounds) => time(&name, &mut work, sides, rounds),

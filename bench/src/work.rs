@@ -39,14 +39,15 @@ pub struct Work {
     obus: Vec<u32>,
     plan: Vec<u32>,
     out: Vec<u8>,
+    payloader: av1rtp::Payloader,
     payloads: Vec<Vec<u8>>,
     store: Vec<u8>,
     back: Vec<u8>,
 }
 
 impl Work {
-    /// The work, after a look that both payload calls give the same packets, but for the lengths of 128 or more that the crate writes
-    /// one byte longer, and that the receive call gives the unit back.
+    /// The work, after a look that all three sides give the same packets, but for the lengths of 128 or more that the crate writes one
+    /// byte longer, and that the receive call gives the unit back.
     pub fn new(size: usize, obus: usize, mtu: usize) -> Self {
         let unit = Bytes::from(unit_of(size, obus));
         let theirs = Av1Payloader {}.payload(mtu, &unit).unwrap();
@@ -55,6 +56,7 @@ impl Work {
             obus: vec![0; obus * OBU_NUMBERS],
             plan: vec![0; theirs.len() * PLAN_NUMBERS],
             out: vec![0; theirs.iter().map(|p| p.len()).sum()],
+            payloader: av1rtp::Payloader::new(),
             payloads: vec![],
             store: vec![0; unit.len()],
             back: vec![0; unit.len() + 4 * mtu],
@@ -67,15 +69,25 @@ impl Work {
             assert!(our == their || our.len() < their.len(), "payload {k} differs");
             work.payloads.push(our.to_vec());
         }
+        let safe = work.payloader.payload(mtu, &work.unit).unwrap();
+        assert!(safe.eq(&work.payloads), "the safe crate's payloads differ");
         work.back();
         assert!(work.back[..work.unit.len()] == work.unit[..], "what comes back is not the unit");
         work
     }
 
-    /// Our payload call.
+    /// Our plan call, and the call that writes all packets.
     pub fn ours(&mut self) {
         let Work { mtu, unit, obus, plan, out, .. } = self;
-        black_box(lent::payload(*mtu, unit, obus, plan, out).unwrap());
+        let packets = lent::plan(*mtu, unit, obus, plan).unwrap().packets;
+        black_box(lent::write_packets(*mtu, unit, obus, plan, 0, packets, out).unwrap());
+    }
+
+    /// The same through the safe crate, which keeps the lists and the output, and a look at each payload.
+    pub fn safe(&mut self) {
+        for payload in self.payloader.payload(self.mtu, &self.unit).unwrap() {
+            black_box(payload);
+        }
     }
 
     /// The crate's, with the release of what it returns.

@@ -23,14 +23,29 @@ mod raw {
             plan_length: usize,
             answer: *mut [usize; 4],
         ) -> u32;
-        pub(super) fn av1rtp_payload(
+        pub(super) fn av1rtp_write_packet(
             mtu: usize,
             unit: *const u8,
             unit_length: usize,
-            obus: *mut u32,
+            obus: *const u32,
             obus_length: usize,
-            plan: *mut u32,
+            plan: *const u32,
             plan_length: usize,
+            k: usize,
+            out: *mut u8,
+            out_length: usize,
+            answer: *mut [usize; 4],
+        ) -> u32;
+        pub(super) fn av1rtp_write_packets(
+            mtu: usize,
+            unit: *const u8,
+            unit_length: usize,
+            obus: *const u32,
+            obus_length: usize,
+            plan: *const u32,
+            plan_length: usize,
+            first: usize,
+            count: usize,
             out: *mut u8,
             out_length: usize,
             answer: *mut [usize; 4],
@@ -98,25 +113,63 @@ pub(crate) fn plan(mtu: usize, unit: &[u8], obus: &mut [u32], plan: &mut [u32], 
 }
 
 #[inline]
-pub(crate) fn payload(
+pub(crate) fn write_packet(
     mtu: usize,
     unit: &[u8],
-    obus: &mut [u32],
-    plan: &mut [u32],
+    obus: &[u32],
+    plan: &[u32],
+    k: usize,
     out: &mut [u8],
     answer: &mut Answer,
 ) -> u32 {
-    let (obus_to, plan_to, out_to) = (obus.as_mut_ptr(), plan.as_mut_ptr(), out.as_mut_ptr());
+    let (obus_from, plan_from, out_to) = (obus.as_ptr(), plan.as_ptr(), out.as_mut_ptr());
     // SAFETY: as in `list`.
     unsafe {
-        raw::av1rtp_payload(
+        raw::av1rtp_write_packet(
             mtu,
             unit.as_ptr(),
             unit.len(),
-            obus_to,
+            obus_from,
             obus.len(),
-            plan_to,
+            plan_from,
             plan.len(),
+            k,
+            out_to,
+            out.len(),
+            answer,
+        )
+    }
+}
+
+/// Which packets: so many from this one on.
+pub(crate) struct Run {
+    pub(crate) first: usize,
+    pub(crate) count: usize,
+}
+
+#[inline]
+pub(crate) fn write_packets(
+    mtu: usize,
+    unit: &[u8],
+    obus: &[u32],
+    plan: &[u32],
+    run: Run,
+    out: &mut [u8],
+    answer: &mut Answer,
+) -> u32 {
+    let (obus_from, plan_from, out_to) = (obus.as_ptr(), plan.as_ptr(), out.as_mut_ptr());
+    // SAFETY: as in `list`.
+    unsafe {
+        raw::av1rtp_write_packets(
+            mtu,
+            unit.as_ptr(),
+            unit.len(),
+            obus_from,
+            obus.len(),
+            plan_from,
+            plan.len(),
+            run.first,
+            run.count,
             out_to,
             out.len(),
             answer,

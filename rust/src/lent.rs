@@ -20,18 +20,6 @@ pub struct Planned {
     pub packets: usize,
 }
 
-/// What the payload call writes. The payload of packet k begins at its record's payload start in the output, and has one byte more
-/// than its packet size.
-#[derive(Clone, Copy, Debug, PartialEq, Eq)]
-pub struct Payloads {
-    /// Kept OBUs, whose records are first in the OBU list.
-    pub obus: usize,
-    /// Packets, whose records are first in the plan.
-    pub packets: usize,
-    /// Bytes of all payloads, which are first in the output.
-    pub bytes: usize,
-}
-
 /// What a receiver holds besides its store. The default is fresh, and every train begins with a fresh one.
 #[derive(Clone, Copy, Debug, Default, PartialEq, Eq)]
 pub struct State {
@@ -103,24 +91,46 @@ pub fn list(unit: &[u8], obus: &mut [u32]) -> Result<usize, Refusal> {
     answered(|answer| ffi::list(unit, obus, answer)).map(|[obus, _, _]| obus)
 }
 
-/// The plan call: list and plan. Refusals 1 to 9.
+/// The plan call: list and plan, which the writing calls take. Refusals 1 to 9.
 #[inline]
 pub fn plan(mtu: usize, unit: &[u8], obus: &mut [u32], plan: &mut [u32]) -> Result<Planned, Refusal> {
     answered(|answer| ffi::plan(mtu, unit, obus, plan, answer))
         .map(|[obus, packets, _]| Planned { obus, packets })
 }
 
-/// The payload call: list, plan and payloads. Refusals 1 to 10.
+/// Writes packet k, by the list and plan that [`plan`] gave for this mtu and unit, and gives its length: its record's packet size and
+/// 1, at most `mtu`. The lists may be longer than their filled part, and what stands behind it is not looked at. Each call walks over
+/// unit and records to see that list and plan are the unit's own; [`write_packets`] does so once for many packets.
+///
+/// Refusals 1 to 7, 31, 11, 10, in this order; a refusal writes nothing.
 #[inline]
-pub fn payload(
+pub fn write_packet(
     mtu: usize,
     unit: &[u8],
-    obus: &mut [u32],
-    plan: &mut [u32],
+    obus: &[u32],
+    plan: &[u32],
+    k: usize,
     out: &mut [u8],
-) -> Result<Payloads, Refusal> {
-    answered(|answer| ffi::payload(mtu, unit, obus, plan, out, answer))
-        .map(|[obus, packets, bytes]| Payloads { obus, packets, bytes })
+) -> Result<usize, Refusal> {
+    answered(|answer| ffi::write_packet(mtu, unit, obus, plan, k, out, answer)).map(|[bytes, _, _]| bytes)
+}
+
+/// Writes `count` packets from packet `first` on, one after the other, each as [`write_packet`] does, and gives their length together:
+/// from the payload start of the first one's record to the end of the last one. A count of 0 writes nothing.
+///
+/// Refusals 1 to 7, 31, 11, 10, in this order; a refusal writes nothing.
+#[inline]
+pub fn write_packets(
+    mtu: usize,
+    unit: &[u8],
+    obus: &[u32],
+    plan: &[u32],
+    first: usize,
+    count: usize,
+    out: &mut [u8],
+) -> Result<usize, Refusal> {
+    let run = ffi::Run { first, count };
+    answered(|answer| ffi::write_packets(mtu, unit, obus, plan, run, out, answer)).map(|[bytes, _, _]| bytes)
 }
 
 /// The header call: the aggregation header of packet k, from a unit and lists of any numbers. Lend the filled part of a list: an old

@@ -1,9 +1,9 @@
 //! AV1 video in RTP payloads: a sender and a receiver whose every call is proved, behind a safe API.
 //!
-//! [`payload`] makes the payloads of a temporal unit; [`Payloader`] does so for many. [`Receiver`] takes the packets of one train and
-//! hands out OBUs; [`train`] reads and writes trains. [`list`] and [`plan`] say where things stand in a unit, for inspection: no
-//! position from them goes into an export, and only trains leave the house. [`lent`] has the calls as they are, over buffers of the
-//! caller's.
+//! [`payload`] makes the payloads of a temporal unit; [`Payloader`] does so for many, all packets of a unit at once or one at a time
+//! into a buffer of the caller's. [`Receiver`] takes the packets of one train and hands out OBUs; [`train`] reads and writes trains.
+//! [`list`] and [`plan`] say where things stand in a unit, for inspection: no position from them goes into an export, and only trains
+//! leave the house. [`lent`] has the calls as they are, over buffers of the caller's.
 //!
 //! What is refused, when, and by which number is in `docs/RULES.md`; [`Refusal`] carries the number, and its words.
 //!
@@ -15,14 +15,16 @@
 #[allow(unsafe_code)]
 mod ffi;
 pub mod lent;
+mod payloads;
 mod receiver;
 mod refusal;
 mod sender;
 pub mod train;
 
+pub use payloads::{OwnedPayloads, Payloads};
 pub use receiver::{element, elements, Receiver};
 pub use refusal::{Reason, Refusal};
-pub use sender::{list, payload, plan, Obu, PacketMetadata, Payloader, Plan};
+pub use sender::{list, payload, plan, Obu, PacketMetadata, Payloader, Plan, PlannedUnit};
 
 /// The most bytes of a unit.
 pub const UNIT_LIMIT: usize = 1_048_576;

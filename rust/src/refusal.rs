@@ -1,9 +1,9 @@
-//! Refusals: the numbers 1 to 23, each with its words.
+//! Refusals: the numbers 1 to 23 and 31, each with its words.
 use std::fmt;
 
 macro_rules! reasons {
     ($($number:literal $name:ident $words:literal)*) => {
-        /// Why a call refuses. `docs/RULES.md` says when exactly each is given (R1 to R23).
+        /// Why a call refuses. `docs/RULES.md` says when exactly each is given (R1 to R23, R31).
         #[derive(Clone, Copy, Debug, PartialEq, Eq, Hash)]
         #[non_exhaustive]
         pub enum Reason {
@@ -39,8 +39,8 @@ reasons! {
     7 PayloadPastUnit "an OBU's payload runs past the unit"
     8 ObuListFull "the OBU list has no room for this OBU"
     9 PlanListFull "the plan list is shorter than the plan"
-    10 NoRoomForPayloads "the output is shorter than all payloads together"
-    11 NoUsablePacket "there is no such packet, or its record has no element, OBUs beyond the list or an end past 4,294,967,295, or an OBU record lies outside the unit"
+    10 NoRoomForPayloads "the output is shorter than the packets asked for"
+    11 NoUsablePacket "there is no such packet, or, for its header, its record has no element, OBUs beyond the list or an end past 4,294,967,295, or an OBU record lies outside the unit"
     12 StateImpossible "the open length is above the store's length or its limit"
     13 PayloadLength "the payload is empty or longer than 65,533 bytes"
     14 NotAhead "the number is not ahead of the last one taken"
@@ -53,6 +53,7 @@ reasons! {
     21 TrainVersion "the train is empty or of another version"
     22 TrainCut "the train ends inside a record"
     23 RecordTooShort "a train record states a length below 3"
+    31 ListsDiffer "the list or the plan is not the one that this unit and mtu give"
 }
 
 /// A refusal: its reason, and where it was found.
@@ -72,7 +73,7 @@ impl Refusal {
         self.reason
     }
 
-    /// The number of the reason, 1 to 23.
+    /// The number of the reason: 1 to 23, or 31.
     pub fn number(&self) -> u32 {
         self.reason as u32
     }

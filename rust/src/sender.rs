@@ -1,6 +1,8 @@
-//! Sending: a unit to payloads. Lists and output are sized by a guess and grown on refusals 8, 9 and 10, within the proved bounds: a
-//! unit has no more kept OBUs than bytes, and its plan no more records than the kept OBUs have bytes.
-use crate::lent::{self, OBU_NUMBERS, PLAN_NUMBERS};
+//! Sending: a unit to payloads, first the plan and then the packets. The lists are sized by a guess and grown on refusals 8 and 9,
+//! within the proved bounds: a unit has no more kept OBUs than bytes, and its plan no more records than the kept OBUs have bytes. The
+//! output is sized by the plan.
+use crate::lent::{self, Planned, OBU_NUMBERS, PLAN_NUMBERS};
+use crate::payloads::{bytes_of, OwnedPayloads, Payloads};
 use crate::{Reason, Refusal, LEAST_MTU, MTU_LIMIT, UNIT_LIMIT};
 
 /// A kept OBU of a unit. For inspection: no position goes into an export.
@@ -46,11 +48,40 @@ pub struct Plan {
 }
 
 /// Makes payloads, and keeps its lists and output from unit to unit, so that nothing is allocated or cleared twice.
+///
+/// [`payload`](Payloader::payload) writes all packets of a unit into its own output and lends their payloads. A sender that has room
+/// for one packet goes by [`plan_unit`](Payloader::plan_unit), and writes them one by one into a buffer of its own.
 #[derive(Clone, Debug, Default)]
 pub struct Payloader {
     obus: Vec<u32>,
     plan: Vec<u32>,
     out: Vec<u8>,
+}
+
+/// A unit that is planned, and whose packets can be written: any of them, in any order. It borrows the unit, so that list and plan
+/// stay its own.
+#[derive(Clone, Copy, Debug)]
+pub struct PlannedUnit<'a> {
+    mtu: usize,
+    unit: &'a [u8],
+    obus: &'a [u32],
+    plan: &'a [u32],
+}
+
+impl PlannedUnit<'_> {
+    /// How many packets there are.
+    pub fn packets(&self) -> usize {
+        self.plan.len() / PLAN_NUMBERS
+    }
+
+    /// Writes the payload of packet k, counted from 0, first in `out`, and gives its length. An output of `mtu` bytes always does.
+    ///
+    /// Every call walks over unit and records once more; [`Payloader::payload`] does so once for all packets.
+    ///
+    /// Refusals 11, if there is no packet k, and 10, if it is longer than the output; a refusal writes nothing.
+    pub fn write_packet(&self, k: usize, out: &mut [u8]) -> Result<usize, Refusal> {
+        lent::write_packet(self.mtu, self.unit, self.obus, self.plan, k, out)
+    }
 }
 
 /// Records that a list begins with.
@@ -62,17 +93,44 @@ impl Payloader {
         Payloader::default()
     }
 
-    /// The payloads of a unit's packets, each of at most `mtu` bytes. There are none if no OBU is kept or the mtu is below 3.
+    /// The payloads of a unit's packets, each of at most `mtu` bytes. There are none if no OBU is kept or the mtu is below 3. They are
+    /// parts of one buffer, which the next call writes again.
     ///
     /// Refusals 1 to 7.
-    pub fn payload(&mut self, mtu: usize, unit: &[u8]) -> Result<Vec<Vec<u8>>, Refusal> {
-        self.begin(mtu, unit);
-        loop {
-            match lent::payload(mtu, unit, &mut self.obus, &mut self.plan, &mut self.out) {
-                Ok(written) => return Ok(self.split(written.packets)),
-                Err(refusal) => self.make_room(refusal, mtu, unit)?,
-            }
-        }
+    ///
+    /// ```
+    /// let mut payloader = av1rtp::Payloader::new();
+    /// let mut payloads = payloader.payload(5, &[0x0A, 0x01, 0x7F, 0x32, 0x00])?;
+    /// assert_eq!(payloads.len(), 2);
+    /// assert_eq!(payloads.next(), Some(&[0x10, 0x08, 0x7F][..]));
+    /// assert_eq!(payloads.next(), Some(&[0x10, 0x30][..]));
+    /// # Ok::<(), av1rtp::Refusal>(())
+    /// ```
+    pub fn payload(&mut self, mtu: usize, unit: &[u8]) -> Result<Payloads<'_>, Refusal> {
+        let packets = self.fill(mtu, unit)?.packets;
+        let records = packets * PLAN_NUMBERS;
+        at_least(&mut self.out, bytes_of(&self.plan[..records]));
+        let bytes = lent::write_packets(mtu, unit, &self.obus, &self.plan, 0, packets, &mut self.out)?;
+        Ok(Payloads::new(&self.plan[..records], &self.out[..bytes]))
+    }
+
+    /// Plans a unit, for a sender that writes packet after packet into a buffer of its own. Refusals 1 to 7.
+    ///
+    /// ```
+    /// let unit = [0x0A, 0x01, 0x7F, 0x32, 0x00];
+    /// let mut payloader = av1rtp::Payloader::new();
+    /// let mut packet = [0; 5];
+    /// let planned = payloader.plan_unit(5, &unit)?;
+    /// assert_eq!(planned.packets(), 2);
+    /// let length = planned.write_packet(1, &mut packet)?;
+    /// assert_eq!(packet[..length], [0x10, 0x30]);
+    /// # Ok::<(), av1rtp::Refusal>(())
+    /// ```
+    pub fn plan_unit<'a>(&'a mut self, mtu: usize, unit: &'a [u8]) -> Result<PlannedUnit<'a>, Refusal> {
+        let filled = self.fill(mtu, unit)?;
+        let obus = &self.obus[..filled.obus * OBU_NUMBERS];
+        let plan = &self.plan[..filled.packets * PLAN_NUMBERS];
+        Ok(PlannedUnit { mtu, unit, obus, plan })
     }
 
     /// The kept OBUs of a unit. Refusals 2 to 7.
@@ -81,23 +139,29 @@ impl Payloader {
         loop {
             match lent::list(unit, &mut self.obus) {
                 Ok(obus) => return Ok(self.obus(obus)),
-                Err(refusal) => self.make_room(refusal, 0, unit)?,
+                Err(refusal) => self.make_room(refusal, unit)?,
             }
         }
     }
 
-    /// The kept OBUs of a unit, and the plan of its packets. Refusals 1 to 7.
+    /// The kept OBUs of a unit, and the plan of its packets, to be looked at. Refusals 1 to 7.
     pub fn plan(&mut self, mtu: usize, unit: &[u8]) -> Result<Plan, Refusal> {
+        let filled = self.fill(mtu, unit)?;
+        Ok(Plan { obus: self.obus(filled.obus), packets: self.packets(filled.packets) })
+    }
+
+    /// Fills list and plan.
+    fn fill(&mut self, mtu: usize, unit: &[u8]) -> Result<Planned, Refusal> {
         self.begin(mtu, unit);
         loop {
             match lent::plan(mtu, unit, &mut self.obus, &mut self.plan) {
-                Ok(p) => return Ok(Plan { obus: self.obus(p.obus), packets: self.packets(p.packets) }),
-                Err(refusal) => self.make_room(refusal, mtu, unit)?,
+                Ok(filled) => return Ok(filled),
+                Err(refusal) => self.make_room(refusal, unit)?,
             }
         }
     }
 
-    /// Room for what most units need: packets that are filled, and a few bytes more for each. None where nothing will be written.
+    /// Lists for what most units need: packets that are filled, and a few more. None where nothing will be listed.
     fn begin(&mut self, mtu: usize, unit: &[u8]) {
         let bytes = unit.len();
         if bytes > UNIT_LIMIT || mtu > MTU_LIMIT {
@@ -107,23 +171,15 @@ impl Payloader {
         if mtu >= LEAST_MTU {
             let packets = (bytes / (mtu - 1) + FIRST_RECORDS).min(bytes);
             at_least(&mut self.plan, packets * PLAN_NUMBERS);
-            at_least(&mut self.out, bytes + 4 * packets);
         }
     }
 
-    /// What refusals 8, 9 and 10 ask for; any other stands.
-    fn make_room(&mut self, refusal: Refusal, mtu: usize, unit: &[u8]) -> Result<(), Refusal> {
+    /// What refusals 8 and 9 ask for; any other stands.
+    fn make_room(&mut self, refusal: Refusal, unit: &[u8]) -> Result<(), Refusal> {
         let records = unit.len();
         let grown = match refusal.reason() {
             Reason::ObuListFull => double(&mut self.obus, OBU_NUMBERS, records),
             Reason::PlanListFull => double(&mut self.plan, PLAN_NUMBERS, records),
-            Reason::NoRoomForPayloads => {
-                let planned = lent::plan(mtu, unit, &mut self.obus, &mut self.plan)?;
-                let last = self.packets(planned.packets).pop();
-                let before = self.out.len();
-                at_least(&mut self.out, last.map_or(0, |p| p.payload_start + p.packet_size + 1));
-                self.out.len() > before
-            }
             _ => false,
         };
         if grown {
@@ -159,21 +215,22 @@ impl Payloader {
             })
             .collect()
     }
+}
 
-    /// The payloads that stand one after the other in the output.
-    fn split(&self, packets: usize) -> Vec<Vec<u8>> {
-        let records = self.plan[..packets * PLAN_NUMBERS].chunks_exact(PLAN_NUMBERS);
-        records
-            .map(|r| {
-                let (packet_size, payload_start) = (r[4] as usize, r[5] as usize);
-                self.out[payload_start..payload_start + packet_size + 1].to_vec()
-            })
-            .collect()
+/// Makes a list so long, if it is shorter. What it has stays, so that no part is cleared twice; the first time it comes cleared from
+/// the allocator.
+#[inline]
+fn at_least<T: Clone + Default>(list: &mut Vec<T>, length: usize) {
+    if list.len() < length {
+        grow(list, length);
     }
 }
 
-fn at_least<T: Clone + Default>(list: &mut Vec<T>, length: usize) {
-    if list.len() < length {
+#[cold]
+fn grow<T: Clone + Default>(list: &mut Vec<T>, length: usize) {
+    if list.is_empty() {
+        *list = vec![T::default(); length];
+    } else {
         list.resize(length, T::default());
     }
 }
@@ -189,13 +246,21 @@ fn double(list: &mut Vec<u32>, numbers: usize, records: usize) -> bool {
 ///
 /// ```
 /// let unit = [0x0A, 0x01, 0x7F, 0x32, 0x00];
-/// assert_eq!(av1rtp::payload(&unit, 5), Ok(vec![vec![0x10, 0x08, 0x7F], vec![0x10, 0x30]]));
+/// let payloads = av1rtp::payload(&unit, 5)?;
+/// assert_eq!(payloads.len(), 2);
+/// assert_eq!(payloads[0], [0x10, 0x08, 0x7F]);
+/// assert_eq!(payloads[1], [0x10, 0x30]);
 ///
 /// let refusal = av1rtp::payload(&[0x32, 0x02, 0xA1], 20).unwrap_err();
 /// assert_eq!(refusal.to_string(), "refused 7 at 0: an OBU's payload runs past the unit");
+/// # Ok::<(), av1rtp::Refusal>(())
 /// ```
-pub fn payload(unit: &[u8], mtu: usize) -> Result<Vec<Vec<u8>>, Refusal> {
-    Payloader::new().payload(mtu, unit)
+pub fn payload(unit: &[u8], mtu: usize) -> Result<OwnedPayloads, Refusal> {
+    let mut payloader = Payloader::new();
+    let packets = payloader.payload(mtu, unit)?.len();
+    let Payloader { mut plan, out, .. } = payloader;
+    plan.truncate(packets * PLAN_NUMBERS);
+    Ok(OwnedPayloads::new(plan, out))
 }
 
 /// The kept OBUs of a unit: [`Payloader::list`] for a single unit.

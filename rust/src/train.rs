@@ -20,8 +20,8 @@ pub struct Packet<'a> {
 /// ```
 /// use av1rtp::train::{Packets, Writer};
 /// let mut train = Writer::new(65535);
-/// for payload in av1rtp::payload(&[0x0A, 0x01, 0x7F], 3).unwrap() {
-///     train.push(&payload).unwrap();
+/// for payload in &av1rtp::payload(&[0x0A, 0x01, 0x7F], 3).unwrap() {
+///     train.push(payload).unwrap();
 /// }
 /// let train = train.into_bytes();
 /// assert_eq!(train, [1, 0, 4, 0xFF, 0xFF, 0x50, 0x08, 0, 4, 0, 0, 0x90, 0x7F]);

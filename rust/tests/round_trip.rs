@@ -27,7 +27,7 @@ fn without_loss_all_obus_come_out() {
         let (unit, mtu) = (dice.unit(), dice.mtu().max(3));
         let mut handed = Vec::new();
         for payload in payloader.payload(mtu, &unit).unwrap() {
-            handed.extend_from_slice(receiver.receive(number, &payload).unwrap());
+            handed.extend_from_slice(receiver.receive(number, payload).unwrap());
             number = number.wrapping_add(1);
         }
         assert_eq!(handed, expected(&unit, mtu).into_iter().flat_map(|(obu, _)| obu).collect::<Vec<u8>>());
@@ -133,8 +133,8 @@ fn a_clip_to_its_train_and_back() {
     while at < input.len() {
         let length = u32::from_be_bytes(input[at..at + 4].try_into().unwrap()) as usize;
         let unit = &input[at + 4..at + 4 + length];
-        for payload in av1rtp::payload(unit, mtu).unwrap() {
-            writer.push(&payload).unwrap();
+        for payload in &av1rtp::payload(unit, mtu).unwrap() {
+            writer.push(payload).unwrap();
         }
         obus.extend(expected(unit, mtu).into_iter().flat_map(|(obu, _)| obu));
         at += 4 + length;
@@ -185,10 +185,10 @@ fn size_fields() {
 
 #[test]
 fn every_reason_has_its_number_and_words() {
-    for number in 1..=23 {
+    for number in (1..=23).chain([31]) {
         let reason = Reason::from_number(number).unwrap();
         assert_eq!(reason as u32, number);
         assert!(!reason.words().is_empty());
     }
-    assert_eq!((Reason::from_number(0), Reason::from_number(24)), (None, None));
+    assert!([0, 24, 30, 32].iter().all(|&number| Reason::from_number(number).is_none()));
 }

@@ -1,8 +1,8 @@
 //! Replays the fixed list of answers that `crates/vectors` replays; the expected answers come from `compare/rules.py`.
 mod common;
-use av1rtp::lent::{self, OBU_NUMBERS, PLAN_NUMBERS};
-use av1rtp::{Obu, PacketMetadata, Reason};
-use common::{ample, hex, repository, unhex};
+use av1rtp::lent::{self, Planned, OBU_NUMBERS, PLAN_NUMBERS};
+use av1rtp::{Obu, PacketMetadata, Reason, Refusal};
+use common::{ample, apart, hex, repository, unhex};
 use std::fs::read_to_string;
 
 /// What stands in a lent list or output before a call.
@@ -57,54 +57,63 @@ fn filled_lists(case: &Case) -> (Vec<u32>, Vec<u32>) {
     )
 }
 
-/// The payload call's answer as a line, and whether everything lent is as the rules say (C5 to C10).
+/// The plan call's answer, and whether both lists are as the rules say (C5, C6).
+fn planned_by(case: &Case, obus: &mut [u32], plan: &mut [u32]) -> Result<Planned, Refusal> {
+    let answer = lent::plan(case.mtu, &case.unit, obus, plan);
+    let (listed, recorded) = match answer {
+        Ok(planned) => (OBU_NUMBERS * planned.obus, PLAN_NUMBERS * planned.packets),
+        Err(refusal) => {
+            let filled = obus.iter().position(|&n| n == OLD_NUMBER).unwrap_or(obus.len());
+            (if refusal.number() == 9 { filled } else { 0 }, 0)
+        }
+    };
+    let (all_obus, all_packets) = filled_lists(case);
+    assert!(obus[..listed] == all_obus[..] || listed == 0);
+    assert!(plan[..recorded] == all_packets[..] || recorded == 0);
+    assert!(obus[listed..].iter().all(|&n| n == OLD_NUMBER));
+    assert!(plan[recorded..].iter().all(|&n| n == OLD_NUMBER));
+    answer
+}
+
+/// Packet after packet, each written into an output of the case's length of its own: the payloads, or the first refusal. Behind what is
+/// written the output stays as it was (C7).
+fn written_by(case: &Case, obus: &[u32], plan: &[u32], packets: usize) -> Result<Vec<Vec<u8>>, Refusal> {
+    let payload = |k: usize| {
+        let mut out = vec![OLD_BYTE; case.output];
+        let answer = lent::write_packet(case.mtu, &case.unit, obus, plan, k, &mut out);
+        let length = plan[k * PLAN_NUMBERS + 4] as usize + 1;
+        assert_eq!(
+            answer.map_err(|refusal| refusal.number()),
+            if length <= out.len() { Ok(length) } else { Err(10) }
+        );
+        assert!(out[answer.unwrap_or(0)..].iter().all(|&b| b == OLD_BYTE));
+        answer.map(|bytes| out[..bytes].to_vec())
+    };
+    (0..packets).map(payload).collect()
+}
+
+/// The case's answer as a line.
 fn answer_to(case: &Case) -> String {
     let mut obus = vec![OLD_NUMBER; case.obus];
     let mut plan = vec![OLD_NUMBER; case.plan];
-    let mut out = vec![OLD_BYTE; case.output];
-    let answer = lent::payload(case.mtu, &case.unit, &mut obus, &mut plan, &mut out);
-    let (listed, planned, bytes) = match answer {
-        Ok(written) => (OBU_NUMBERS * written.obus, PLAN_NUMBERS * written.packets, written.bytes),
-        Err(refusal) => {
-            let filled = |list: &[u32]| list.iter().position(|&n| n == OLD_NUMBER).unwrap_or(list.len());
-            let listed = if refusal.number() >= 9 { filled(&obus) } else { 0 };
-            let planned = if refusal.number() >= 10 { filled(&plan) } else { 0 };
-            (listed, planned, 0)
-        }
-    };
-    if answer.is_err() {
-        let (all_obus, all_packets) = filled_lists(case);
-        assert!(listed == 0 || obus[..listed] == all_obus);
-        assert!(planned == 0 || plan[..planned] == all_packets);
-    }
-    assert!(obus[listed..].iter().all(|&n| n == OLD_NUMBER));
-    assert!(plan[planned..].iter().all(|&n| n == OLD_NUMBER));
-    assert!(out[bytes..].iter().all(|&b| b == OLD_BYTE));
-    let written = match answer {
-        Ok(written) => written,
+    let answer = planned_by(case, &mut obus, &mut plan)
+        .and_then(|planned| Ok((planned, written_by(case, &obus, &plan, planned.packets)?)));
+    let (planned, payloads) = match answer {
+        Ok(answer) => answer,
         Err(refusal) => return format!("refused {} {}", refusal.number(), refusal.offset()),
     };
-    let (obus, plan) = (&obus[..listed], &plan[..planned]);
-    let mut line = format!("obus {}", written.obus);
-    if written.obus > 0 {
+    let (obus, plan) = (&obus[..OBU_NUMBERS * planned.obus], &plan[..PLAN_NUMBERS * planned.packets]);
+    let mut line = format!("obus {}", planned.obus);
+    if planned.obus > 0 {
         line += &format!(" {}", records(obus, OBU_NUMBERS));
     }
-    line += &format!(" packets {}", written.packets);
-    if written.packets > 0 {
-        let header = |k| lent::header(&case.unit, obus, plan, k).unwrap();
-        let headers = (0..written.packets).map(|k| format!("{:02X}", header(k)));
-        let mut at = 0;
-        let payloads = plan.chunks(PLAN_NUMBERS).map(|r| {
-            let start = at;
-            assert_eq!(r[5] as usize, start);
-            at += r[4] as usize + 1;
-            hex(&out[start..at])
-        });
-        let payloads: Vec<String> = payloads.collect();
-        let headers: Vec<String> = headers.collect();
+    line += &format!(" packets {}", planned.packets);
+    if planned.packets > 0 {
+        let header = |k| format!("{:02X}", lent::header(&case.unit, obus, plan, k).unwrap());
+        let headers: Vec<String> = (0..planned.packets).map(header).collect();
+        let payloads: Vec<String> = payloads.iter().map(|payload| hex(payload)).collect();
         let plan = records(plan, PLAN_NUMBERS);
         line += &format!(" {plan} headers {} payloads {}", headers.join(","), payloads.join(","));
-        assert_eq!(at, bytes);
     }
     line
 }
@@ -125,14 +134,21 @@ fn fixed_list() {
     }
 }
 
-/// With lists that grow, the payloads are those of ample lists, and 8, 9 and 10 are never given.
+/// With lists that grow, the payloads are those of ample lists, and 8, 9 and 10 are never given. A run is its packets one after the other,
+/// and a planned unit writes the same ones.
 #[test]
 fn fixed_list_with_lists_that_grow() {
     let mut payloader = av1rtp::Payloader::new();
     for (i, (case, _)) in cases().iter().enumerate() {
         let wanted = ample(&case.unit, case.mtu);
-        assert!(av1rtp::payload(&case.unit, case.mtu) == wanted, "line {}", i + 1);
-        assert!(payloader.payload(case.mtu, &case.unit) == wanted, "line {}", i + 1);
+        let owned = av1rtp::payload(&case.unit, case.mtu);
+        assert!(owned.clone().map(|payloads| apart(&payloads)) == wanted, "line {}", i + 1);
+        assert!(payloader.payload(case.mtu, &case.unit).map(apart) == wanted, "line {}", i + 1);
+        match &wanted {
+            Ok(payloads) => one_by_one(&mut payloader, case, payloads),
+            Err(refusal) => assert_eq!(payloader.plan_unit(case.mtu, &case.unit).unwrap_err(), *refusal),
+        }
+        assert!(owned.map(|payloads| payloads.as_bytes().to_vec()) == wanted.clone().map(|w| w.concat()));
         match (av1rtp::plan(&case.unit, case.mtu), &wanted) {
             (Ok(plan), Ok(payloads)) => {
                 let mut end = 0;
@@ -148,6 +164,22 @@ fn fixed_list_with_lists_that_grow() {
             (plan, _) => panic!("line {}: {plan:?}", i + 1),
         }
     }
+}
+
+/// A planned unit writes these payloads: the last packet first, each into a buffer that just holds it. Every call walks over the plan,
+/// so of more than 500 packets the first and the last 20 are written.
+fn one_by_one(payloader: &mut av1rtp::Payloader, case: &Case, payloads: &[Vec<u8>]) {
+    let planned = payloader.plan_unit(case.mtu, &case.unit).unwrap();
+    let packets = planned.packets();
+    assert_eq!(packets, payloads.len());
+    for k in (0..packets).rev().filter(|k| packets <= 500 || *k < 20 || packets - k <= 20) {
+        let mut just = vec![OLD_BYTE; payloads[k].len()];
+        assert_eq!(planned.write_packet(k, &mut just[1..]).unwrap_err().reason(), Reason::NoRoomForPayloads);
+        assert!(just.iter().all(|&b| b == OLD_BYTE));
+        assert_eq!(planned.write_packet(k, &mut just), Ok(just.len()));
+        assert!(just == payloads[k]);
+    }
+    assert_eq!(planned.write_packet(packets, &mut []).unwrap_err().reason(), Reason::NoUsablePacket);
 }
 
 #[test]

@@ -9,13 +9,13 @@ use lib.Dec.{ltb}
 use Rattle.base.specs.Answers.{Answer, given, refused}
 use Rattle.leb128.specs.declared.SizeField.{SizeField}
 use Rattle.packetizer.specs.declared.Planned.{Planned}
-use Rattle.payloader.specs.declared.Payloads.{Payloads}
+use Rattle.payloader.specs.declared.Written.{Written}
 use Rattle.receiver.specs.Joining.{fresh}
 use Rattle.receiver.specs.Call.{stateOf}
 use Rattle.receiver.specs.declared.State.{State}
 use Rattle.train.specs.declared.RecordHead.{RecordHead}
 use Rattle.av1rtp.specs.Words.{numberIn, wordsIn, Named}
-use Rattle.av1rtp.specs.Calls.{one, plannedWords, payloadsWords, fieldWords, recordWords, stateIn, stateWords}
+use Rattle.av1rtp.specs.Calls.{one, plannedWords, writtenWords, fieldWords, recordWords, stateIn, stateWords}
 
 -- ---- answers
 
@@ -37,12 +37,10 @@ planned-apart a b e =
     let p : a .packets ≡ b .packets = cc in
     ap₂ (λ (n m : ℕ). record { obus = n; packets = m }) o p
 
-pub payloads-apart : (a b : Payloads) → payloadsWords a ≡ payloadsWords b → a ≡ b
-payloads-apart a b e =
-    let o : a .obus ≡ b .obus = cc in
-    let p : a .packets ≡ b .packets = cc in
-    let q : a .bytes ≡ b .bytes = cc in
-    rw (o, p, q)
+pub written-apart : (a b : Written) → writtenWords a ≡ writtenWords b → a ≡ b
+written-apart a b e =
+    let o : a .bytes ≡ b .bytes = cc in
+    ap (λ (n : ℕ). record { bytes = n }) o
 
 pub field-apart : (a b : SizeField) → fieldWords a ≡ fieldWords b → a ≡ b
 field-apart a b e =

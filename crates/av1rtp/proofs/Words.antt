@@ -1,16 +1,18 @@
 -- The number and the words of an answer, from what a call within gave or refused. Assumes nothing.
-use mathlib.Core.Path.{_≡_, ap, _∙_}
+use mathlib.Core.Path.{_≡_, sym, ap, _∙_}
 use Prim.Native.Nat.{ℕ}
 use native.Mathlib.Omega.{arith}
 use mathlib.Core.List.{List, [], _∷_}
 use lib.ListN.{length}
 use Rattle.base.specs.Answers.{Answer, given, refused}
+use Rattle.payloader.specs.Call.{After, leaves}
+use Rattle.payloader.specs.declared.Written.{Written}
 use Rattle.element.specs.Elements.{chosen}
 use Rattle.element.specs.Paper.{walkedOf, walked}
 use Rattle.element.specs.declared.Part.{Part}
 use Rattle.element.specs.declared.Walked.{Walked}
 use Rattle.av1rtp.specs.Words.{numberIn, wordsIn}
-use Rattle.av1rtp.specs.Calls.{elementCount}
+use Rattle.av1rtp.specs.Calls.{writtenWords, WriteCrosses, elementCount}
 
 module _ {A : Type 0} (three : A → List ℕ) {x : Answer A} {r : ℕ} {words : List ℕ} where
   pub gave : {a : A} → given a ≡ x → (r ≡ 0) × (words ≡ 0 ∷ three a) → (r ≡ numberIn x) × (words ≡ wordsIn three x)
@@ -18,6 +20,18 @@ module _ {A : Type 0} (three : A → List ℕ) {x : Answer A} {r : ℕ} {words :
 
   pub declined : {n at : ℕ} → refused n at ≡ x → (r ≡ n) × (words ≡ at ∷ 0 ∷ 0 ∷ 0 ∷ []) → (r ≡ numberIn x) × (words ≡ wordsIn three x)
   declined e h = (h .0 ∙ ap numberIn e, h .1 ∙ ap (wordsIn three) e)
+
+-- ---- the writing calls
+
+module _ {after : After} {x : Answer Written} {r : ℕ} {words out : List ℕ} (e : leaves x out ≡ after) where
+  crosses : (r ≡ numberIn (after .answer)) × (words ≡ wordsIn writtenWords (after .answer)) → WriteCrosses after r words out
+  crosses t = record { number = t .0; words-are = t .1; out-is = ap (λ (a : After). a .out) e }
+
+  pub write-gave : {w : Written} → x ≡ given w → (r ≡ 0) × (words ≡ 0 ∷ writtenWords w) → WriteCrosses after r words out
+  write-gave f h = crosses (gave writtenWords (sym f ∙ ap (λ (a : After). a .answer) e) h)
+
+  pub write-declined : {n at : ℕ} → x ≡ refused n at → (r ≡ n) × (words ≡ at ∷ 0 ∷ 0 ∷ 0 ∷ []) → WriteCrosses after r words out
+  write-declined f h = crosses (declined writtenWords (sym f ∙ ap (λ (a : After). a .answer) e) h)
 
 -- ---- elements: what a walk to element k says of all of them
 

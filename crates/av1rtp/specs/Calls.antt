@@ -14,7 +14,7 @@ use Rattle.obu.specs.declared.Listed.{Listed}
 use Rattle.packetizer.specs.Call as planner
 use Rattle.packetizer.specs.declared.Planned.{Planned}
 use Rattle.payloader.specs.Call as payloader
-use Rattle.payloader.specs.declared.Payloads.{Payloads}
+use Rattle.payloader.specs.declared.Written.{Written}
 use Rattle.element.specs.declared.Part.{Part}
 use Rattle.receiver.specs.Call.{After}
 use Rattle.receiver.specs.declared.State.{State}
@@ -34,8 +34,8 @@ listedWords l = l .obus ∷ 0 ∷ 0 ∷ []
 abbrev pub plannedWords : Planned → List ℕ
 plannedWords p = p .obus ∷ p .packets ∷ 0 ∷ []
 
-abbrev pub payloadsWords : Payloads → List ℕ
-payloadsWords p = p .obus ∷ p .packets ∷ p .bytes ∷ []
+abbrev pub writtenWords : Written → List ℕ
+writtenWords w = one (w .bytes)
 
 -- what crosses of the plan call: its answer, and the two lists
 pub record PlanCrosses (after : planner.After) (r : ℕ) (words obus plan : List ℕ) : Type 0 where
@@ -44,12 +44,10 @@ pub record PlanCrosses (after : planner.After) (r : ℕ) (words obus plan : List
   pub obus-are : obus ≡ after .obus
   pub plan-is : plan ≡ after .plan
 
--- and of the payload call: the output too
-pub record PayloadCrosses (after : payloader.After) (r : ℕ) (words obus plan out : List ℕ) : Type 0 where
+-- and of the writing calls: the answer, and the output
+pub record WriteCrosses (after : payloader.After) (r : ℕ) (words out : List ℕ) : Type 0 where
   pub number : r ≡ numberIn (after .answer)
-  pub words-are : words ≡ wordsIn payloadsWords (after .answer)
-  pub obus-are : obus ≡ after .obus
-  pub plan-is : plan ≡ after .plan
+  pub words-are : words ≡ wordsIn writtenWords (after .answer)
   pub out-is : out ≡ after .out
 
 -- ---- a size field

@@ -6,7 +6,7 @@ use element::Walk;
 use leb128::SizeRead;
 use obu::ObuList;
 use packetizer::PlanAnswer;
-use payloader::PayloadAnswer;
+use payloader::WriteAnswer;
 use receiver::Receipt;
 use receiver::State;
 use train::HeadRead;
@@ -21,12 +21,12 @@ ghost use Rattle.obu.specs.Records.{obusIn};
 ghost use Rattle.packetizer.specs.Call.{toPlan, planUnit};
 ghost use Rattle.packetizer.specs.Records.{packetsIn};
 ghost use Rattle.aggregation.specs.Header.{headerOf};
-ghost use Rattle.payloader.specs.Call.{toWrite, writeUnit};
+ghost use Rattle.payloader.specs.Call.{toWrite, writePacket, writePackets};
 ghost use Rattle.element.specs.Elements.{payloadElements, elementOf};
 ghost use Rattle.receiver.specs.Call.{inputs, received};
 ghost use Rattle.train.specs.Train.{lengthWidth, headOf, frontOf, recordFields};
 ghost use Rattle.av1rtp.specs.Words.{numberIn, wordsIn};
-ghost use Rattle.av1rtp.specs.Calls.{one, listedWords, PlanCrosses, PayloadCrosses, fieldAnswer, fieldWords, elementCount, stateIn, stateWords, Crosses, headWords, recordAnswer, recordWords};
+ghost use Rattle.av1rtp.specs.Calls.{one, listedWords, PlanCrosses, WriteCrosses, fieldAnswer, fieldWords, elementCount, stateIn, stateWords, Crosses, headWords, recordAnswer, recordWords};
 
 // What was asked for: success, and up to three numbers.
 fn give(answer: &mut [usize; 4], a: usize, b: usize, c: usize) -> u32
@@ -75,24 +75,44 @@ pub extern "C" fn av1rtp_plan(
     }
 }
 
-// The OBU list, the plan and the payloads of a unit. Words: offset, OBUs, packets, bytes.
+// Packet k of a unit, by its list and plan. Words: offset, bytes.
 #[no_mangle]
-pub extern "C" fn av1rtp_payload(
+pub extern "C" fn av1rtp_write_packet(
     mtu: usize,
     unit: &[u8],
-    obus: &mut [u32],
-    plan: &mut [u32],
+    obus: &[u32],
+    plan: &[u32],
+    k: usize,
     out: &mut [u8],
     answer: &mut [usize; 4],
 ) -> u32
-    ensures { λ r. ⌜ PayloadCrosses (writeUnit (toWrite mtu (now (unit .entry)) (now (obus .entry)) (now (plan .entry)) (now (out .entry))))
-        r (now (answer .exit)) (now (obus .exit)) (now (plan .exit)) (now (out .exit)) ⌝ }
+    ensures { λ r. ⌜ WriteCrosses (writePacket k (toWrite mtu (now (unit .entry)) (now (obus .entry)) (now (plan .entry)) (now (out .entry))))
+        r (now (answer .exit)) (now (out .exit)) ⌝ }
 {
-    match payloader::payload(mtu, unit, obus, plan, out) {
-        PayloadAnswer::Written(written) => {
-            give(answer, written.obus, written.packets, written.bytes)
-        }
-        PayloadAnswer::Refused { refusal, at } => refuse(answer, refusal, at),
+    match payloader::write_packet(mtu, unit, obus, plan, k, out) {
+        WriteAnswer::Written(written) => give(answer, written.bytes, 0, 0),
+        WriteAnswer::Refused { refusal, at } => refuse(answer, refusal, at),
+    }
+}
+
+// So many packets of a unit from one on, one after the other, by its list and plan. Words: offset, bytes.
+#[no_mangle]
+pub extern "C" fn av1rtp_write_packets(
+    mtu: usize,
+    unit: &[u8],
+    obus: &[u32],
+    plan: &[u32],
+    first: usize,
+    count: usize,
+    out: &mut [u8],
+    answer: &mut [usize; 4],
+) -> u32
+    ensures { λ r. ⌜ WriteCrosses (writePackets first count (toWrite mtu (now (unit .entry)) (now (obus .entry)) (now (plan .entry)) (now (out .entry))))
+        r (now (answer .exit)) (now (out .exit)) ⌝ }
+{
+    match payloader::write_packets(mtu, unit, obus, plan, first, count, out) {
+        WriteAnswer::Written(written) => give(answer, written.bytes, 0, 0),
+        WriteAnswer::Refused { refusal, at } => refuse(answer, refusal, at),
     }
 }
 

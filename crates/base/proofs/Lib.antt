@@ -3,6 +3,7 @@ pub mod Refusals
 pub mod Tests
 pub mod Bits
 pub mod Lists
+pub mod Fronts
 pub mod Storing
 pub mod Records
 pub mod Words

@@ -1,10 +1,11 @@
 -- Lists: what a store leaves, and what is kept of a list.
 use Prim.Native.Nat.{ℕ, _+_}
 use mathlib.Core.List.{List, [], _∷_, _++_, flatMap}
-use mathlib.Core.Bool.{Bool, cond}
+use mathlib.Core.Bool.{Bool, true, false, cond, _&&_}
 use mathlib.Core.Path.{_≡_}
 use lib.ListN.{length, take, drop}
 use lib.Seq.{sets}
+use lib.Dec.{eqb}
 
 module _ {A : Type 0} where
   -- l with the elements from place `at` on replaced by those given
@@ -33,6 +34,12 @@ module _ {A : Type 0} where
   pub record Prefix (a b : List A) : Type 0 where
     pub rest : List A
     pub is : b ≡ a ++ rest
+
+-- whether these numbers stand first in l
+unfoldable pub isFront : List ℕ → List ℕ → Bool
+isFront [] l = true
+isFront (a ∷ new) [] = false
+isFront (a ∷ new) (b ∷ l) = eqb a b && isFront new l
 
 -- a text is stored from the cursor `at` on, and `end` is the cursor after it
 pub record Put (l l′ : List ℕ) (at end : ℕ) (text : List ℕ) : Type 0 where

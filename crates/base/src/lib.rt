@@ -1,12 +1,12 @@
-// What every other crate stands on: the refusals by name, with their numbers and words, numbers stored in a lent flat list, the smaller
-// of two numbers, and bytes copied.
+// What every other crate stands on: the refusals by name, with their numbers and words, numbers stored in a lent flat list or compared
+// with it, the smaller of two numbers, and bytes copied.
 pub mod big_endian;
 
 ghost use mathlib.Core.Path.{_≡_};
 ghost use Prim.Native.Nat.{_+_, _≤_, min};
 ghost use lib.ListN.{length, take, drop};
 ghost use lib.Seq.{sets};
-ghost use Rattle.base.specs.Lists.{Put};
+ghost use Rattle.base.specs.Lists.{isFront, Put};
 ghost use Rattle.base.specs.Refusals.{numberOf};
 ghost use Rattle.base.specs.Words.{wordsOf, wordsMost};
 ghost use Rattle.base.specs.Inside.{lineFrom};
@@ -113,6 +113,26 @@ pub fn put_numbers(list: &mut [u32], at: usize, numbers: &[u32])
         list[at + i] = numbers[i];
         i += 1;
     }
+}
+
+// Whether a flat list has these numbers from place `at` on.
+pub fn same_numbers(list: &[u32], at: usize, numbers: &[u32]) -> bool
+    ensures { λ r. ⌜ r ≡ isFront (now (numbers .entry)) (drop at (now (list .entry))) ⌝ }
+{
+    if list.len() < at {
+        return numbers.len() == 0;
+    }
+    if list.len() - at < numbers.len() {
+        return false;
+    }
+    let mut i: usize = 0;
+    while i < numbers.len() {
+        if numbers[i] != list[at + i] {
+            return false;
+        }
+        i += 1;
+    }
+    true
 }
 
 // The smaller of two numbers.

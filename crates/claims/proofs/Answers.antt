@@ -34,8 +34,8 @@ plan-answer = answers.plan-one
 pub header-answer : TellsApart aggregation.paper
 header-answer = answers.header-one
 
-pub payload-answer : TellsApart payloader.paper
-payload-answer = answers.payloads-one
+pub write-answer : TellsApart payloader.paper
+write-answer = answers.write-one
 
 pub element-read : TellsApart element.paperRead
 element-read = answers.part-one

@@ -17,8 +17,8 @@ one-word = laws.one-apart
 pub planned-words : TellsApart border.plannedWords
 planned-words = laws.planned-apart
 
-pub payloads-words : TellsApart border.payloadsWords
-payloads-words = laws.payloads-apart
+pub written-words : TellsApart border.writtenWords
+written-words = laws.written-apart
 
 pub field-words : TellsApart border.fieldWords
 field-words = laws.field-apart

@@ -2,10 +2,13 @@
 use Rattle.settled.specs.Settled.{Settled, SettledBy, SamePart}
 use Rattle.leb128.proofs.read_leb128 as readLeb128
 use Rattle.obu.proofs.parse_obus as parseObus
+use Rattle.obu.proofs.same_list as sameList
 use Rattle.packetizer.proofs.plan_unit as planUnit
+use Rattle.packetizer.proofs.same_plan as samePlan
 use Rattle.aggregation.proofs.get_aggregation_header as getAggregationHeader
 use Rattle.aggregation.proofs.header_of as headerOf
-use Rattle.payloader.proofs.payload as payload
+use Rattle.payloader.proofs.write_packet as writePacket
+use Rattle.payloader.proofs.write_packets as writePackets
 use Rattle.element.proofs.walk_elements as walkElements
 use Rattle.element.proofs.element as element
 use Rattle.receiver.proofs.receive as receive
@@ -24,8 +27,14 @@ read-leb128 = calls.read-leb128
 pub parse-obus : Settled parseObus.ended (λ M. parseObus.clauses)
 parse-obus = calls.parse-obus
 
+pub same-list : Settled sameList.ended (λ M. sameList.clauses)
+same-list = calls.same-list
+
 pub plan-unit : Settled planUnit.ended (λ M. planUnit.clauses)
 plan-unit = calls.plan-unit
+
+pub same-plan : Settled samePlan.ended (λ M. samePlan.clauses)
+same-plan = calls.same-plan
 
 pub get-aggregation-header : Settled getAggregationHeader.ended (λ M. getAggregationHeader.clauses)
 get-aggregation-header = calls.get-aggregation-header
@@ -33,8 +42,11 @@ get-aggregation-header = calls.get-aggregation-header
 pub header-of : Settled headerOf.ended (λ M. headerOf.clauses)
 header-of = calls.header-of
 
-pub payloads : Settled payload.ended (λ M. payload.clauses)
-payloads = calls.payloads
+pub write-packet : Settled writePacket.ended (λ M. writePacket.clauses)
+write-packet = calls.write-packet
+
+pub write-packets : Settled writePackets.ended (λ M. writePackets.clauses)
+write-packets = calls.write-packets
 
 pub walk-elements : Settled walkElements.ended (λ M. walkElements.clauses)
 walk-elements = calls.walk-elements

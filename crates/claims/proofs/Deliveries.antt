@@ -23,7 +23,7 @@ delivery = theorem.delivery
 pub no-loss : NoLoss
 no-loss = noLoss.no-loss
 
--- for units that the payload call packed
+-- for units that the plan call planned and the writing calls wrote
 
 pub units-lawful : UnitsLawful
 units-lawful = λ sendings accepted. (units.trains sendings, units.units-lawful sendings accepted)

@@ -4,7 +4,8 @@ use Rattle.av1rtp.proofs.av1rtp_size_field as sizeField
 use Rattle.av1rtp.proofs.av1rtp_list as list
 use Rattle.av1rtp.proofs.av1rtp_plan as plan
 use Rattle.av1rtp.proofs.av1rtp_header as header
-use Rattle.av1rtp.proofs.av1rtp_payload as payload
+use Rattle.av1rtp.proofs.av1rtp_write_packet as writePacket
+use Rattle.av1rtp.proofs.av1rtp_write_packets as writePackets
 use Rattle.av1rtp.proofs.av1rtp_element as element
 use Rattle.av1rtp.proofs.av1rtp_receive as receive
 use Rattle.av1rtp.proofs.av1rtp_train_head as trainHead
@@ -24,8 +25,11 @@ plan-unit = exports.plan-unit
 pub header-of : Settled header.ended (λ M. header.clauses)
 header-of = exports.header-of
 
-pub payloads : Settled payload.ended (λ M. payload.clauses)
-payloads = exports.payloads
+pub write-packet : Settled writePacket.ended (λ M. writePacket.clauses)
+write-packet = exports.write-packet
+
+pub write-packets : Settled writePackets.ended (λ M. writePackets.clauses)
+write-packets = exports.write-packets
 
 pub element-of : Settled element.ended (λ M. element.clauses)
 element-of = exports.element-of

@@ -29,3 +29,7 @@ payload-stands = starts.payload-stands
 
 pub table : map rows.answered rows.rows ≡ map (λ (r : rows.Row). r .result) rows.rows
 table = rows.table
+
+-- and by a call for each packet
+pub table-singly : map rows.answeredSingly rows.rows ≡ map (λ (r : rows.Row). r .result) rows.rows
+table-singly = rows.singly

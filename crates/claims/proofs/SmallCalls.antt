@@ -2,6 +2,7 @@
 use Rattle.settled.specs.Settled.{Settled}
 use Rattle.base.proofs.number as number
 use Rattle.base.proofs.smaller as smaller
+use Rattle.base.proofs.same_numbers as sameNumbers
 use Rattle.leb128.proofs.leb128_size as leb128Size
 use Rattle.obu.proofs.obu_type as obuType
 use Rattle.obu.proofs.obu_has_extension as obuHasExtension
@@ -22,6 +23,9 @@ number-of = small.number-of
 
 pub smaller-of : Settled smaller.ended (λ M. smaller.clauses)
 smaller-of = small.smaller-of
+
+pub same-numbers : Settled sameNumbers.ended (λ M. sameNumbers.clauses)
+same-numbers = small.same-numbers
 
 pub leb128-size : Settled leb128Size.ended (λ M. leb128Size.clauses)
 leb128-size = small.leb128-size

@@ -5,6 +5,6 @@ use Rattle.lawful.specs.Train.{Piece}
 use Rattle.lawful.specs.Lawful.{Lawful}
 use Rattle.delivery.specs.Units.{Sending, Accepted, payloadsSent}
 
--- what the payload call writes for accepted units, each with its own mtu, is a lawful train
+-- what the writing calls write for accepted units, each with its own mtu, is a lawful train
 abbrev pub UnitsLawful : Type 0
 UnitsLawful = (sendings : List Sending) → All Accepted sendings → (t : List Piece) × Lawful t (payloadsSent sendings)

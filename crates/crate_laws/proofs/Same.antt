@@ -1,8 +1,8 @@
 -- Crate and port agree on every allowed unit (D2). Assumes nothing.
 --     same-units                list, plan, headers but for N, payloads but for N and how a length is written
---     sent-allowed              a unit that the payload call accepts is allowed
+--     sent-allowed              a unit of which a packet is written is allowed
 --     listed-same               the list, where the list call answers with a count
---     planned-same, sent-same   as same-units, where the plan call or the payload call answers with numbers
+--     planned-same, sent-same   as same-units, where the plan call or a writing call answers with numbers
 use mathlib.Core.Path.{_≡_, refl, sym, ap, _∙_}
 use Prim.Native.Nat.{ℕ, zero, suc, _+_, _-_, _/_, _≤_, _<_}
 use native.Mathlib.Numerals.{add-one}
@@ -14,16 +14,16 @@ use lib.Seq.{drop-cons}
 use lib.Dec.{ltb}
 use borrow.Author.Tests.{ltb-false}
 use Rattle.base.specs.Answers.{Answer, given, refused}
-use Rattle.base.specs.Lists.{joined}
 use Rattle.base.proofs.Tests.{split-on}
 use Rattle.obu.specs.Laws.{Bytes}
-use Rattle.obu.specs.Unit.{unitLimit, Placed, ScanEnd, ended, refusedBy, scanOf, keptOf, obusOf, listedOf, atStop, listed, listAnswer}
+use Rattle.obu.specs.Unit.{unitLimit, Placed, ScanEnd, ended, refusedBy, scanOf, keptOf, obusOf, listedOf, atStop, listed, listAnswer, sameList}
 use Rattle.obu.specs.Records.{obuNumbers}
 use Rattle.obu.specs.declared.Obu.{Obu}
 use Rattle.obu.specs.declared.Listed.{Listed}
 use Rattle.obu.proofs.Records.{obu-lies}
+use Rattle.obu.proofs.Compares.{same-says}
 use Rattle.packetizer.specs.Plan.{planOf}
-use Rattle.packetizer.specs.Call.{mtuLimit, sizesOf, unitPlan, toPlan, planned, planAnswer, sizes}
+use Rattle.packetizer.specs.Call.{mtuLimit, sizesOf, unitPlan, toPlan, planned, planAnswer, compared, samePlan, sizes}
 use Rattle.packetizer.specs.declared.PacketMetadata.{PacketMetadata}
 use Rattle.packetizer.specs.declared.Planned.{Planned}
 use Rattle.packetizer.specs.Laws.{Sound}
@@ -32,9 +32,9 @@ use Rattle.packetizer.proofs.Calls.{unit-small, given-kept}
 use Rattle.aggregation.specs.New.{nOf}
 use Rattle.aggregation.specs.Header.{byteOf, headerOf}
 use Rattle.aggregation.proofs.Headers.{alike}
-use Rattle.payloader.specs.Payload as ours
+use Rattle.payloader.specs.Payload.{payloadAt}
 use Rattle.payloader.specs.Call as call
-use Rattle.payloader.specs.declared.Payloads.{Payloads}
+use Rattle.payloader.specs.declared.Written.{Written}
 use Rattle.payloader.proofs.Packets.{packet-sound, packet-header}
 use Rattle.crate_laws.specs.Rust.{Outcome, ok}
 use Rattle.crate_laws.specs.Packetizer.{CratePacket, «packetize»}
@@ -132,6 +132,12 @@ pub listed-same : ListedSame
 listed-same unit obus l bytes e = parse-same unit bytes (listed-ended unit (length obus / obuNumbers) l (sym e))
 
 module _ (mtu : ℕ) (unit obus plan : List ℕ) where
+  -- what is listed in any space, with an mtu within its limit
+  listed-allowed : (space : ℕ) (l : Listed) → ltb mtuLimit mtu ≡ false → listed space unit ≡ given l → Allowed mtu unit
+  listed-allowed space l t e =
+      let k = given-kept unit space l (sym e) in
+      record { low = ltb-false mtuLimit mtu t; short = k .0; whole = listed-ended unit space l (sym e) }
+
   planned-list : (p : Planned) (ps : List PacketMetadata) (space : ℕ) (a : Answer Listed) → planned ps space a ≡ given p → (l : Listed) × (a ≡ given l)
   planned-list p ps space (given l) e = (l, refl)
   planned-list p ps space (refused n at) e = let z : _≡_ {A = ℕ} 0 1 = cc in absurd (omega arith)
@@ -145,24 +151,40 @@ module _ (mtu : ℕ) (unit obus plan : List ℕ) where
       absurd (omega arith))
       (λ t.
       let (l, q) = planned-list p (unitPlan mtu unit) (length plan / planNumbers) (listAnswer unit obus) (rw t at e) in
-      let k = given-kept unit (length obus / obuNumbers) l (sym q) in
-      record { low = ltb-false mtuLimit mtu t; short = k .0; whole = listed-ended unit (length obus / obuNumbers) l (sym q) })
+      listed-allowed (length obus / obuNumbers) l t q)
 
-  written-plan : (r : Payloads) (l : List ℕ) (space : ℕ) (a : Answer Planned) → call.written l space a ≡ given r → (p : Planned) × (a ≡ given p)
-  written-plan r l space (given p) e = (p, refl)
-  written-plan r l space (refused n at) e = let z : _≡_ {A = ℕ} 0 1 = cc in absurd (omega arith)
+  -- comparing the lists, and writing by what it answers
+  compared-list : (p : Planned) (ps : List PacketMetadata) (a : Answer Listed) → compared ps plan a ≡ given p → (l : Listed) × (a ≡ given l)
+  compared-list p ps (given l) e = (l, refl)
+  compared-list p ps (refused n at) e = let z : _≡_ {A = ℕ} 0 1 = cc in absurd (omega arith)
 
-  sent-planned : (out : List ℕ) (r : Payloads) → call.payloadAnswer (call.toWrite mtu unit obus plan out) ≡ given r → (p : Planned) × (planAnswer (toPlan mtu unit obus plan) ≡ given p)
-  unfolding call.payloadAnswer
-  sent-planned out r e = written-plan r (joined (ours.payloadsOf mtu unit)) (length out) (planAnswer (toPlan mtu unit obus plan)) e
+  compared-allowed : (p : Planned) → samePlan mtu unit obus plan ≡ given p → Allowed mtu unit
+  unfolding samePlan
+  compared-allowed p e = split-on (ltb mtuLimit mtu)
+      (λ t.
+      let f : refused 1 0 ≡ given p = rw t at e in
+      let z : _≡_ {A = ℕ} 0 1 = cc in
+      absurd (omega arith))
+      (λ t.
+      let (l, q) = compared-list p (unitPlan mtu unit) (sameList unit obus) (rw t at e) in
+      listed-allowed (length unit) l t (sym (same-says unit obus (sym q) .0)))
+
+  written-plan : (w : Written) (there : ℕ → Bool) (bytes : List ℕ) (space : ℕ) (a : Answer Planned) → call.written there bytes space a ≡ given w
+      → (p : Planned) × (a ≡ given p)
+  written-plan w there bytes space (given p) e = (p, refl)
+  written-plan w there bytes space (refused n at) e = let z : _≡_ {A = ℕ} 0 1 = cc in absurd (omega arith)
+
+  written-allowed : (there : ℕ → Bool) (bytes out : List ℕ) (w : Written) → call.answerFor there bytes (call.toWrite mtu unit obus plan out) ≡ given w → Allowed mtu unit
+  unfolding call.answerFor
+  written-allowed there bytes out w e =
+      let (p, q) = written-plan w there bytes (length out) (samePlan mtu unit obus plan) e in
+      compared-allowed p q
 
 pub planned-same : PlannedSame
 planned-same mtu unit obus plan p bytes e = same-units mtu unit bytes (planned-allowed mtu unit obus plan p e)
 
 pub sent-allowed : SentAllowed
-sent-allowed mtu unit obus plan out r e =
-    let (p, q) = sent-planned mtu unit obus plan out r e in
-    planned-allowed mtu unit obus plan p q
+sent-allowed mtu k unit obus plan out w e = written-allowed mtu unit obus plan (ltb k) (payloadAt mtu unit k) out w e
 
 pub sent-same : SentSame
-sent-same mtu unit obus plan out r bytes e = same-units mtu unit bytes (sent-allowed mtu unit obus plan out r e)
+sent-same mtu k unit obus plan out w bytes e = same-units mtu unit bytes (sent-allowed mtu k unit obus plan out w e)

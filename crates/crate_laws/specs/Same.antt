@@ -5,7 +5,7 @@
 --     EqualPayloads             where no length is of 128 or more and N of packet 0 is the same, payloads are equal byte for byte
 --     FieldsSame                a size field that we read
 --     SentAllowed               all of these hold of accepted units (W15)
---     ListedSame, PlannedSame, SentSame   the same, by the answers of the list, plan and payload calls
+--     ListedSame, PlannedSame, SentSame   the same, by the answers of the list, plan and writing calls
 use mathlib.Core.Path.{_≡_}
 use Prim.Native.Nat.{ℕ, _+_, _-_, _≤_, _<_}
 use mathlib.Core.List.{List, map}
@@ -26,8 +26,8 @@ use Rattle.packetizer.specs.declared.Planned.{Planned}
 use Rattle.aggregation.specs.New.{nOf}
 use Rattle.aggregation.specs.Header.{headerOf}
 use Rattle.payloader.specs.Payload.{payloadsOf}
-use Rattle.payloader.specs.Call.{toWrite, payloadAnswer}
-use Rattle.payloader.specs.declared.Payloads.{Payloads}
+use Rattle.payloader.specs.Call.{toWrite, writePacket}
+use Rattle.payloader.specs.declared.Written.{Written}
 use Rattle.crate_laws.specs.Rust.{ok}
 use Rattle.crate_laws.specs.Leb128.{«read_leb128»}
 use Rattle.crate_laws.specs.Obu.{CrateObu, «parse_obus»}
@@ -35,8 +35,8 @@ use Rattle.crate_laws.specs.Packetizer.{CratePacket, packet, spreadOver,
 use Rattle.crate_laws.specs.Payload.{payload}
 use Rattle.crate_laws.specs.Pieces.{writtenBy, crateNew, crateWriter, ourWriter, zywOf, piecesOf, ShortPieces}
 
--- none of refusals 1 to 7 is given to mtu and unit; 8, 9 and 10 are about what the caller lends, and so an accepted unit (W15) is
--- allowed
+-- none of refusals 1 to 7 is given to mtu and unit; 8 and 9 are about what the caller lends, and 10, 11 and 31 about packet, output and
+-- lists, and so an accepted unit (W15) is allowed
 pub record Allowed (mtu : ℕ) (unit : List ℕ) : Type 0 where
   pub low : mtu ≤ mtuLimit
   pub short : length unit ≤ unitLimit
@@ -126,7 +126,8 @@ FieldsSame = (l : List ℕ) (v n : ℕ) → Bytes l → sizeField l ≡ sized v 
 
 abbrev pub SentAllowed : Type 0
 SentAllowed =
-    (mtu : ℕ) (unit obus plan out : List ℕ) (r : Payloads) → payloadAnswer (toWrite mtu unit obus plan out) ≡ given r → Allowed mtu unit
+    (mtu k : ℕ) (unit obus plan out : List ℕ) (w : Written) → writePacket k (toWrite mtu unit obus plan out) .answer ≡ given w
+    → Allowed mtu unit
 
 abbrev pub ListedSame : Type 0
 ListedSame =
@@ -138,5 +139,5 @@ PlannedSame =
 
 abbrev pub SentSame : Type 0
 SentSame =
-    (mtu : ℕ) (unit obus plan out : List ℕ) (r : Payloads) → Bytes unit → payloadAnswer (toWrite mtu unit obus plan out) ≡ given r
-    → Same mtu unit
+    (mtu k : ℕ) (unit obus plan out : List ℕ) (w : Written) → Bytes unit
+    → writePacket k (toWrite mtu unit obus plan out) .answer ≡ given w → Same mtu unit

@@ -7,7 +7,7 @@ use mathlib.Core.Bool.{Bool, true, false, not}
 use lib.ListN.{length, getD, length-map}
 use borrow.Author.Tests.{not-true}
 use Rattle.base.specs.Answers.{Answer, given, refused, Given}
-use Rattle.base.specs.Lists.{keep, All, joined}
+use Rattle.base.specs.Lists.{keep, All}
 use Rattle.base.proofs.Tests.{by-cond}
 use Rattle.base.proofs.Lists.{all-map, all-keep, all-of-map, map-all}
 use Rattle.obu.specs.Header.{typeOf, drops}
@@ -20,12 +20,10 @@ use Rattle.obu.proofs.Theorems.{wire-sent}
 use Rattle.packetizer.specs.Call.{mtuLimit, sizesOf, unitPlan, toPlan, planAnswer}
 use Rattle.packetizer.specs.Laws.{position, Runs}
 use Rattle.packetizer.specs.declared.Planned.{Planned}
+use Rattle.packetizer.proofs.Accepted as planned
 use Rattle.packetizer.proofs.Laws.{plan-runs}
 use Rattle.packetizer.proofs.UnitLaws.{unit-positive}
 use Rattle.payloader.specs.Payload.{payloadsOf}
-use Rattle.payloader.specs.Call.{written, payloadAnswer}
-use Rattle.payloader.proofs.Calls as calls
-use Rattle.payloader.proofs.Calls.{accepted}
 use Rattle.handing.specs.Handing.{wires}
 use Rattle.lawful.specs.Train.{Piece, Full, closed, packetsOfPieces, Portion, obus, join, whole}
 use Rattle.lawful.specs.Payload.{CarryAll}
@@ -39,15 +37,14 @@ use Rattle.delivery.proofs.UnitObus.{unit-through}
 
 -- ---- an accepted unit and its mtu are within their limits
 
-planned-given : (bytes : List ℕ) (space : ℕ) (a : Answer Planned) → Given (written bytes space a) → (p : Planned) × (given p ≡ a)
-planned-given bytes space (given p) g = (p, refl)
-planned-given bytes space (refused n at) g = absurd g
+planned-given : (a : Answer Planned) → Given a → (p : Planned) × (given p ≡ a)
+planned-given (given p) g = (p, refl)
+planned-given (refused n at) g = absurd g
 
 pub within-limits : (s : Sending) → Accepted s → (length (s .unit) ≤ unitLimit) × (s .mtu ≤ mtuLimit)
-unfolding payloadAnswer
 within-limits s h =
-    let p = planned-given (joined (payloadsOf (s .mtu) (s .unit))) (length (s .output)) (planAnswer (toPlan (s .mtu) (s .unit) (s .obus) (s .plan))) (h .1) in
-    let a : calls.Accepted (s .mtu) (s .unit) (s .obus) (s .plan) (p .0) = accepted (s .mtu) (s .unit) (s .obus) (s .plan) (p .0) (p .1) in
+    let (p, e) = planned-given (planAnswer (toPlan (s .mtu) (s .unit) (s .obus) (s .plan))) (h .1) in
+    let a = planned.accepted (s .mtu) (s .unit) (s .obus) (s .plan) p e in
     (a .small, a .most)
 
 -- ---- a kept OBU, sent, comes out as its `wire` bytes

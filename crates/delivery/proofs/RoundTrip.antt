@@ -26,9 +26,9 @@ use Rattle.obu.proofs.Theorems.{kept-inside, wire-small}
 use Rattle.packetizer.specs.Plan.{leastMtu}
 use Rattle.packetizer.specs.Call.{mtuLimit}
 use Rattle.packetizer.specs.Records.{planNumbers}
+use Rattle.packetizer.specs.declared.Planned.{Planned}
 use Rattle.payloader.specs.Payload.{payloadsOf}
-use Rattle.payloader.specs.declared.Payloads.{Payloads}
-use Rattle.packing.specs.Pack.{packVersion, mtuWidth, headWidth, Head, found, headIn, unitStore, listRecords, outputBytes, unitWidth, nextNumber, numbered, numberAfter, answerIn, Length, over, stated, cut, lengthIn, PackEnd, ended as packEnded, unitBy, unitAfter, unitNext, unitsFrom, unitsBy, packetsOf, trainBy}
+use Rattle.packing.specs.Pack.{packVersion, mtuWidth, headWidth, Head, found, headIn, unitStore, listRecords, unitWidth, nextNumber, numbered, numberAfter, answerIn, Length, over, stated, cut, lengthIn, PackEnd, ended as packEnded, unitBy, unitAfter, unitNext, unitsFrom, unitsBy, packetsOf, trainBy}
 use Rattle.packing.specs.declared.input.PackHead.{PackHead}
 use Rattle.packing.proofs.Reading.{stated-within}
 use Rattle.packing.proofs.Units.{answer-is}
@@ -39,7 +39,7 @@ use Rattle.train.proofs.Written.{head-taken, written-read}
 use Rattle.receiver.specs.Joining.{fresh}
 use Rattle.receiver.specs.Call.{Taken}
 use Rattle.receiver.proofs.Laws.{holding-fresh}
-use Rattle.unpacking.specs.Unpack.{fragmentStore, writtenFor, unpackedFrom, unpackOf}
+use Rattle.unpacking.specs.Unpack.{fragmentStore, outputBytes, writtenFor, unpackedFrom, unpackOf}
 use Rattle.lawful.specs.Train as lawful
 use Rattle.lawful.specs.Train.{packetsOfPieces}
 use Rattle.lawful.specs.Payload.{CarryAll}
@@ -53,16 +53,16 @@ use Rattle.delivery.proofs.UnitsTheorem.{units-no-loss}
 
 -- ---- the units that are packed
 
--- a unit that the payload call accepts with the space of `pack`, and that is within its store
+-- a unit that the plan call plans with the space of `pack`, and that is within its store
 abbrev Good : ℕ → List ℕ → Type 0
-Good mtu u = Given (answerIn listRecords listRecords outputBytes mtu u) × (length u ≤ unitStore)
+Good mtu u = Given (answerIn listRecords listRecords mtu u) × (length u ≤ unitStore)
 
 -- nothing has to be known of the bytes that begin with it
 abbrev GoodNext : ℕ → List ℕ → Next (List ℕ) PackEnd ℕ → Type 0
 GoodNext mtu = Keeps (Good mtu) (λ i l. Unit {0})
 
 module _ (mtu : ℕ) where
-  with-unit : (i span : ℕ) (l u : List ℕ) (a : Answer Payloads) → a ≡ answerIn listRecords listRecords outputBytes mtu u → length u ≤ unitStore
+  with-unit : (i span : ℕ) (l u : List ℕ) (a : Answer Planned) → a ≡ answerIn listRecords listRecords mtu u → length u ≤ unitStore
       → GoodNext mtu l (unitBy i span u a)
   with-unit i span l u (given p) e s = ((subst Given e tt, s), tt)
   with-unit i span l u (refused k at) e s = tt
@@ -73,7 +73,7 @@ module _ (mtu : ℕ) where
   with-length i l (stated s) e =
       by-cond (GoodNext mtu l) (ltb (length (drop unitWidth l)) s) _ _ (λ t. tt)
       (λ t.
-      with-unit i (unitWidth + s) l (take s (drop unitWidth l)) (answerIn listRecords listRecords outputBytes mtu (take s (drop unitWidth l))) refl
+      with-unit i (unitWidth + s) l (take s (drop unitWidth l)) (answerIn listRecords listRecords mtu (take s (drop unitWidth l))) refl
       (omega (arith, length-take s (drop unitWidth l), stated-within l s e)))
 
   units-good : (i : ℕ) (l : List ℕ) → All (Good mtu) (unitsFrom mtu i l .items)
@@ -86,9 +86,9 @@ verdicts-right : (l m : List (Answer Taken)) → All (λ v. v ≡ takes) (verdic
 verdicts-right [] m a = a
 verdicts-right (x ∷ l) m a = verdicts-right l m (a .1)
 
--- ---- as payload calls
+-- ---- as planned units
 
--- a slice of so many bytes; what they are does not matter
+-- a slice of so many numbers; what they are does not matter
 zeros : ℕ → List ℕ
 zeros n = replicate n 0
 
@@ -98,7 +98,7 @@ zeros-length n = length-replicate n 0
 
 module _ (mtu : ℕ) (least : leastMtu ≤ mtu) where
   sending : List ℕ → Sending
-  sending u = record { mtu = mtu; unit = u; obus = zeros (listRecords * obuNumbers); plan = zeros (listRecords * planNumbers); output = zeros outputBytes }
+  sending u = record { mtu = mtu; unit = u; obus = zeros (listRecords * obuNumbers); plan = zeros (listRecords * planNumbers) }
 
   sendings : List (List ℕ) → List Sending
   sendings us = map sending us
@@ -106,7 +106,7 @@ module _ (mtu : ℕ) (least : leastMtu ≤ mtu) where
   accepted : (us : List (List ℕ)) → All (Good mtu) us → All Accepted (sendings us)
   unfolding sendings sending
   accepted [] g = tt
-  accepted (u ∷ us) g = ((least, subst Given (sym (answer-is mtu u o p w ∙ spaced)) (g .0 .0)), accepted us (g .1))
+  accepted (u ∷ us) g = ((least, subst Given (sym (answer-is mtu u o p ∙ spaced)) (g .0 .0)), accepted us (g .1))
     where
       o : List ℕ
       o = zeros (listRecords * obuNumbers)
@@ -114,14 +114,10 @@ module _ (mtu : ℕ) (least : leastMtu ≤ mtu) where
       p : List ℕ
       p = zeros (listRecords * planNumbers)
 
-      w : List ℕ
-      w = zeros outputBytes
-
-      spaced : answerIn (length o / obuNumbers) (length p / planNumbers) (length w) mtu u ≡ answerIn listRecords listRecords outputBytes mtu u
+      spaced : answerIn (length o / obuNumbers) (length p / planNumbers) mtu u ≡ answerIn listRecords listRecords mtu u
       spaced =
-          ap (λ (n : ℕ). answerIn (n / obuNumbers) (length p / planNumbers) (length w) mtu u) (zeros-length (listRecords * obuNumbers))
-          ∙ ap (λ (n : ℕ). answerIn listRecords (n / planNumbers) (length w) mtu u) (zeros-length (listRecords * planNumbers))
-          ∙ ap (λ (n : ℕ). answerIn listRecords listRecords n mtu u) (zeros-length outputBytes)
+          ap (λ (n : ℕ). answerIn (n / obuNumbers) (length p / planNumbers) mtu u) (zeros-length (listRecords * obuNumbers))
+          ∙ ap (λ (n : ℕ). answerIn listRecords (n / planNumbers) mtu u) (zeros-length (listRecords * planNumbers))
 
   sent-payloads : (us : List (List ℕ)) → payloadsSent (sendings us) ≡ flatMap (payloadsOf mtu) us
   unfolding sendings sending flatMap

@@ -1,4 +1,4 @@
--- What the payload call writes, read by the definition of elements, gives back the plan's Z, Y and elements. Assumes nothing.
+-- What the writing calls write, read by the definition of elements, gives back the plan's Z, Y and elements. Assumes nothing.
 use mathlib.Core.Path.{ap, subst, _∙_}
 use Prim.Native.Nat.{ℕ}
 use mathlib.Core.List.{List, [], _∷_, map}

@@ -17,7 +17,6 @@ use Rattle.packetizer.specs.Call.{planAnswer}
 use Rattle.aggregation.specs.New.{beforeFrame, fromFrame, nOf}
 use Rattle.aggregation.specs.Header.{byteOf}
 use Rattle.payloader.specs.Payload.{fielded, payload, payloadsFrom}
-use Rattle.payloader.specs.Call.{payloadAnswer}
 use Rattle.element.specs.Elements.{elementAt, exactly, counting, elementsOf, payloadElements}
 use Rattle.handing.specs.Handing.{wires}
 use Rattle.receiver.specs.Joining.{isAhead, isInStep, follows, withFragment, finished, left, handed, keptOpen, next, out}
@@ -27,9 +26,9 @@ use Rattle.delivery.specs.Calls.{Arrival, arrivedPackets, Call, takes, r
 use Rattle.delivery.specs.Units.{Sending, Accepted, payloadsSent, UnitsDelivered}
 use Rattle.delivery.proofs.UnitsTheorem.{units-delivery}
 
--- space for so many OBUs and packets, and so many bytes
+-- space for so many OBUs and packets
 sending : ℕ → List ℕ → Sending
-sending mtu unit = record { mtu = mtu; unit = unit; obus = replicate 20 7; plan = replicate 30 7; output = replicate 20 7 }
+sending mtu unit = record { mtu = mtu; unit = unit; obus = replicate 20 7; plan = replicate 30 7 }
 
 -- U7's unit at mtu 3, one with no kept OBU, U9's at 20, U11's at 3
 pub sendings : List Sending
@@ -57,7 +56,7 @@ unfolding packets sendings sending flatMap keep fieldIn encodeIn headed frontOf 
 payloads-are = refl
 
 accepted : All Accepted sendings
-unfolding sendings sending flatMap keep fieldIn encodeIn headed frontOf streamFrom listed largestFragment chargeOf isFull needOf fragmentOf spread insert place planFrom planOf elementsFrom nOf beforeFrame fromFrame byteOf fielded payload payloadsFrom planAnswer payloadAnswer
+unfolding sendings sending keep fieldIn encodeIn headed frontOf streamFrom listed largestFragment chargeOf isFull needOf fragmentOf spread insert place planFrom planOf planAnswer
 accepted = ((omega arith, tt), ((omega arith, tt), ((omega arith, tt), ((omega arith, tt), tt))))
 
 -- the largest kept OBU has 6 bytes and the largest mtu is 20: a store of 6 bytes, outputs of 86, which hold something

@@ -1,4 +1,4 @@
--- Demand 3 for units that the payload call packed (D3): a case of the theorem for lawful trains. Assumes nothing.
+-- Demand 3 for units that the plan call planned and whose packets the writing calls wrote (D3): a case of the theorem for lawful trains. Assumes nothing.
 use mathlib.Core.Path.{_≡_, refl, sym, ap, ap₂, subst, _∙_}
 use Prim.Native.Nat.{ℕ, zero, suc, _+_, _≤_, _<_, min}
 use native.Mathlib.Omega.{arith}

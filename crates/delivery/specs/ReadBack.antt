@@ -1,4 +1,4 @@
--- What the payload call writes, read by the definition of elements (H1 to H5, E1 to E5, R13, R15 to R17): the statement.
+-- What the writing calls write, read by the definition of elements (H1 to H5, E1 to E5, R13, R15 to R17): the statement.
 use Prim.Native.Nat.{ℕ, _+_}
 use mathlib.Core.Path.{_≡_}
 use mathlib.Core.List.{List, [], _∷_, map}

@@ -10,7 +10,7 @@ use Rattle.delivery.specs.Arrivals.{Near}
 use Rattle.delivery.specs.Calls.{Arrival, arrivedPackets, freshCalls, handedOut}
 use Rattle.delivery.specs.Units.{Sending, Accepted, payloadsSent, sentFrom, UnitSpace}
 
--- units packed and numbered in one run, some of whose packets arrive
+-- planned units, their packets written and numbered in one run, and those of them that arrive
 pub record Train : Type 0 where
   pub sendings : List Sending
   pub first : ℕ

@@ -1,4 +1,4 @@
--- What loss leaves of units that the payload call packed (D3): the statement.
+-- What loss leaves of units that the plan call planned and whose packets the writing calls wrote (D3): the statement.
 use Prim.Native.Nat.{ℕ, suc, _+_, _*_, _≤_}
 use mathlib.Core.Path.{_≡_}
 use mathlib.Core.List.{List, [], _∷_, _++_, map, flatMap}
@@ -13,26 +13,24 @@ use Rattle.obu.specs.Wire.{wireOf}
 use Rattle.obu.specs.Records.{noObu}
 use Rattle.obu.specs.declared.Obu.{Obu}
 use Rattle.packetizer.specs.Plan.{leastMtu}
-use Rattle.packetizer.specs.Call.{unitPlan}
+use Rattle.packetizer.specs.Call.{unitPlan, toPlan, planAnswer}
 use Rattle.packetizer.specs.declared.PacketMetadata.{PacketMetadata}
 use Rattle.payloader.specs.Payload.{payloadsOf}
-use Rattle.payloader.specs.Call.{toWrite, payloadAnswer}
 use Rattle.delivery.specs.Arrivals.{timely, firstTimely, Near, inOrder}
 use Rattle.delivery.specs.Calls.{Arrival, arrivedPackets, Run, takes, refuses, takenOr14, freshCalls, handedOut, verdicts}
 
--- one payload call: a unit, its mtu, and what is lent
+-- one planned unit: its mtu, and the two lent lists
 pub record Sending : Type 0 where
   pub mtu : ℕ
   pub unit : List ℕ
   pub obus : List ℕ
   pub plan : List ℕ
-  pub output : List ℕ
 
 -- W15, with an mtu that gives packets
 abbrev pub Accepted : Sending → Type 0
-Accepted s = (leastMtu ≤ s .mtu) × Given (payloadAnswer (toWrite (s .mtu) (s .unit) (s .obus) (s .plan) (s .output)))
+Accepted s = (leastMtu ≤ s .mtu) × Given (planAnswer (toPlan (s .mtu) (s .unit) (s .obus) (s .plan)))
 
--- the packets of one run: those of the units, in order
+-- the packets of one run: those of the units, in order, each as the writing calls write it
 abbrev pub payloadsSent : List Sending → List (List ℕ)
 payloadsSent sendings = flatMap (λ (s : Sending). payloadsOf (s .mtu) (s .unit)) sendings
 
@@ -102,7 +100,7 @@ UnitsNoLoss =
     → (handedOut (freshCalls (sentFrom first sendings) store arrivals) ≡ flatMap (λ (s : Sending). flatMap (wireOf (s .unit)) (obusOf (s .unit))) sendings)
     × All (λ v. v ≡ takes) (verdicts (freshCalls (sentFrom first sendings) store arrivals))
 
--- of the packets that the payload call wrote, none gets a refusal but R14: never R13, R15, R16, R17 or R18, and with this space never R12, R19 or R20
+-- of the packets that the writing calls wrote, none gets a refusal but R14: never R13, R15, R16, R17 or R18, and with this space never R12, R19 or R20
 abbrev pub UnitsOnly14 : Type 0
 UnitsOnly14 =
     (sendings : List Sending) (first size mtu : ℕ) (store : List ℕ) (arrivals : List Arrival)

@@ -14,10 +14,10 @@ use Rattle.packetizer.specs.Records.{planNumbers, noPacket, packetsIn}
 use Rattle.packetizer.specs.declared.PacketMetadata.{PacketMetadata}
 use Rattle.packetizer.specs.declared.Planned.{Planned}
 use Rattle.packetizer.proofs.Records.{plan-length, plan-part, packets-flat}
+use Rattle.packetizer.proofs.Accepted.{accepted}
 use Rattle.aggregation.specs.Header.{Headed}
 use Rattle.aggregation.proofs.Headers.{byte-back}
 use Rattle.payloader.proofs.Packets.{packet-header}
-use Rattle.payloader.proofs.Calls.{accepted}
 use Rattle.turns.specs.Orders.{asks}
 use Rattle.listing.specs.Input.{unitStore, obuListNumbers, planListNumbers}
 use Rattle.listing.specs.Row.{rowOf}
@@ -101,8 +101,8 @@ planned-filled p unit obus plan q e h =
     let known = accepted _ _ _ _ q e in
     record {
       within = h;
-      obus-are = known .listed;
+      obus-are = known .counted;
       packets-are = known .packets;
-      obus-is = rw (known .obus-is, known .listed) (obus-part (obusOf (unitIn p unit)) obus);
+      obus-is = rw (known .obus-is, known .counted) (obus-part (obusOf (unitIn p unit)) obus);
       plan-is = rw (known .plan-is, known .packets) (plan-part (unitPlan (p .mtu) (unitIn p unit)) plan);
     }

@@ -17,7 +17,7 @@ use Rattle.obu.specs.Unit.{obusOf}
 use Rattle.packetizer.specs.Call.{unitPlan, toPlan, planAnswer}
 use Rattle.packetizer.specs.Records.{noPacket}
 use Rattle.packetizer.specs.declared.Planned.{Planned}
-use Rattle.payloader.proofs.Calls.{accepted}
+use Rattle.packetizer.proofs.Accepted.{accepted}
 use Rattle.turns.specs.Orders.{Told, ends, asks}
 use Rattle.turns.specs.Loop.{Output, nothing, also, loop}
 use Rattle.listing.specs.Input as input

@@ -3,5 +3,6 @@ pub mod Rows
 pub mod Fronts
 pub mod Wires
 pub mod Scans
+pub mod Compares
 pub mod Theorems
 pub mod Records

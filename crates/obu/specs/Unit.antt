@@ -4,8 +4,8 @@ use mathlib.Core.List.{List, map}
 use mathlib.Core.Bool.{Bool, cond, not}
 use lib.ListN.{length, getD}
 use lib.Dec.{ltb}
-use Rattle.base.specs.Answers.{Answer, given, refused, stored}
-use Rattle.base.specs.Lists.{keep}
+use Rattle.base.specs.Answers.{Answer, given, refused, stored, ifSame}
+use Rattle.base.specs.Lists.{keep, isFront}
 use Rattle.base.specs.Streams.{Next, item, halt, Stream, streamOf}
 use Rattle.obu.specs.Header.{typeOf, headerSize, drops}
 use Rattle.obu.specs.Front.{Front, startOf, spanOf, Seen, found, stopped, frontOf}
@@ -95,3 +95,9 @@ listAnswer unit l = listed (length l / obuNumbers) unit
 
 abbrev pub listAfter : List ℕ → List ℕ → List ℕ
 listAfter unit l = stored (listAnswer unit l) (flat (obusOf unit)) l
+
+-- ---- a lent list that is to hold the unit's records (R31): refused as by the list call, with space enough (a unit has no more OBUs than
+-- bytes), and then if the first of its numbers are others. What stands after the records is not looked at
+
+unfoldable pub sameList : List ℕ → List ℕ → Answer Listed
+sameList unit l = ifSame (isFront (flat (obusOf unit)) l) (listed (length unit) unit)

@@ -1,5 +1,8 @@
 // OBUs: a unit is taken apart into the list of its kept OBUs (O1 to O9), and an OBU of exactly some bytes is judged (R18).
+mod compare; // compare.rt: whether a list is that of a unit
+
 use base::Refusal;
+pub use compare::same_list;
 use leb128::SizeRead;
 ghost use mathlib.Core.Path.{_≡_};
 ghost use Prim.Native.Nat.{ℕ, _+_, _*_, _^_, _≤_, _<_, min};

@@ -70,6 +70,9 @@ sizes-back : (os : List Obu) → sizes (map readBack os) ≡ sizes os
 sizes-back [] = refl
 sizes-back (o ∷ os) = ap (λ (l : List ℕ). o .size ∷ l) (sizes-back os)
 
+pub flat-sizes : (unit : List ℕ) → sizes (obusIn (flat (obusOf unit))) ≡ sizesOf unit
+flat-sizes unit = ap sizes (obus-flat (obusOf unit)) ∙ sizes-back (obusOf unit)
+
 -- the list call lists the unit, and leaves the list so
 pub record Filled (unit obus obus′ : List ℕ) (l : Listed) : Type 0 where
   pub answer : given l ≡ listAnswer unit obus
@@ -96,7 +99,7 @@ module _ {unit obus obus′ : List ℕ} {g : Listed} (f : Filled unit obus obus�
   list-is = ap₂ (λ (m : ℕ) (l : List ℕ). take (m * obuNumbers) l) records filled ∙ obus-part (obusOf unit) obus
 
   pub list-sizes : sizes (obusIn (take (g .obus * obuNumbers) obus′)) ≡ sizesOf unit
-  list-sizes = ap (λ (l : List ℕ). sizes (obusIn l)) list-is ∙ ap sizes (obus-flat (obusOf unit)) ∙ sizes-back (obusOf unit)
+  list-sizes = ap (λ (l : List ℕ). sizes (obusIn l)) list-is ∙ flat-sizes unit
 
   pub list-plannable : {mtu : ℕ} (store : Bool) {plan : List ℕ} → mtu ≤ mtuLimit → (store ≡ true → length (unitPlan mtu unit) * planNumbers ≤ length plan)
       → Plannable mtu (sizes (obusIn (take (g .obus * obuNumbers) obus′))) store plan

@@ -14,6 +14,11 @@ pub mod Laws
 pub mod Starts
 pub mod Totals
 pub mod Turns
+pub mod Cursors
+pub mod Comparing
 pub mod Calls
+pub mod Stops
+pub mod Same
+pub mod Accepted
 pub mod Pieces
 pub mod UnitLaws

@@ -4,8 +4,9 @@ use mathlib.Core.List.{List, map}
 use mathlib.Core.Bool.{cond}
 use lib.ListN.{length}
 use lib.Dec.{ltb}
-use Rattle.base.specs.Answers.{Answer, given, refused, stored}
-use Rattle.obu.specs.Unit.{obusOf, listAnswer, listAfter}
+use Rattle.base.specs.Answers.{Answer, given, refused, stored, ifSame}
+use Rattle.base.specs.Lists.{isFront}
+use Rattle.obu.specs.Unit.{obusOf, listAnswer, listAfter, sameList}
 use Rattle.obu.specs.declared.Obu.{Obu}
 use Rattle.obu.specs.declared.Listed.{Listed}
 use Rattle.packetizer.specs.Plan.{planOf}
@@ -66,3 +67,13 @@ planUnit i =
       obus = cond (ltb mtuLimit (i .mtu)) (i .obus) (listAfter (i .unit) (i .obus));
       plan = stored (planAnswer i) (flatPlan (unitPlan (i .mtu) (i .unit))) (i .plan);
     }
+
+-- ---- lent lists that are to hold the records of the unit and of its plan (R31): refused as by the plan call, with space enough, and then if
+-- the first of their numbers are others. What stands after the records is not looked at
+
+abbrev pub compared : List PacketMetadata → List ℕ → Answer Listed → Answer Planned
+compared ps plan (given l) = ifSame (isFront (flatPlan ps) plan) (given (record { obus = l .obus; packets = length ps }))
+compared ps plan (refused n at) = refused n at
+
+unfoldable pub samePlan : ℕ → List ℕ → List ℕ → List ℕ → Answer Planned
+samePlan mtu unit obus plan = cond (ltb mtuLimit mtu) (refused 1 0) (compared (unitPlan mtu unit) plan (sameList unit obus))

@@ -6,3 +6,4 @@ pub mod Call
 pub mod Paper
 pub mod Inside
 pub mod Laws
+pub mod Cursor

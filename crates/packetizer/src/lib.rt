@@ -1,5 +1,6 @@
 // The plan: which bytes of which kept OBUs go into which packet (P1 to P15).
 mod packet; // packet.rt: one packet while it is filled
+mod cursor; // cursor.rt: packet after packet, compared with a lent plan
 
 use base::Refusal;
 use obu::ObuList;
@@ -11,7 +12,7 @@ ghost use lib.ListN.{length, getD};
 ghost use Rattle.obu.specs.Unit.{unitLimit};
 ghost use Rattle.obu.specs.Records.{obusIn};
 ghost use Rattle.packetizer.specs.Plan.{chargeOf, spread, insert, place, planOf};
-ghost use Rattle.packetizer.specs.Call.{sizes, toPlan, leaves, planUnit};
+ghost use Rattle.packetizer.specs.Call.{sizes, toPlan, leaves, planUnit, samePlan};
 ghost use Rattle.packetizer.specs.Paper.{paper, recorded};
 ghost use Rattle.packetizer.specs.Inside.{Plannable, Closable, Closed};
 ghost use Rattle.packetizer.specs.Records.{planNumbers, packetsIn, noPacket};
@@ -231,6 +232,28 @@ pub fn plan_unit(mtu: usize, unit: &[u8], obus: &mut [u32], plan: &mut [u32]) ->
                 obus: listed.obus,
                 packets: packets,
             })
+        }
+    }
+}
+
+// Whether lent lists begin with the records of a unit's kept OBUs and of their plan: how many there are, or 31.
+pub fn same_plan(mtu: usize, unit: &[u8], obus: &[u32], plan: &[u32]) -> PlanAnswer
+    ensures { λ r. ⌜ paper r ≡ samePlan mtu (now (unit .entry)) (now (obus .entry)) (now (plan .entry)) ⌝ }
+{
+    if MTU_LIMIT < mtu {
+        return PlanAnswer::Refused {
+            refusal: Refusal::MtuOverLimit,
+            at: 0,
+        };
+    }
+    match obu::same_list(unit, obus) {
+        ObuList::Refused { refusal, at } => PlanAnswer::Refused {
+            refusal: refusal,
+            at: at,
+        },
+        ObuList::Listed(listed) => {
+            let own = listed.obus * obu::OBU_NUMBERS;
+            cursor::same_packets(&obus[..own], mtu, plan)
         }
     }
 }

@@ -9,7 +9,7 @@ use lib.Seq.{drop-drop, take-take, take-at, length-take-le}
 use lib.Dec.{ltb}
 use borrow.Author.Tests.{ltb-false, le-ltb}
 use Rattle.base.specs.Answers.{Answer, given, refused}
-use Rattle.base.specs.Lists.{front, joined}
+use Rattle.base.specs.Lists.{front}
 use Rattle.base.specs.Streams.{Next, halt, chained}
 use Rattle.base.proofs.Lists.{short-front, flatMap-append}
 use Rattle.base.proofs.Tests.{by-cond, split-on}
@@ -17,9 +17,8 @@ use Rattle.base.proofs.Streams.{Some, stream-next}
 use Rattle.obu.specs.Unit.{obusOf, listed}
 use Rattle.obu.specs.declared.Listed.{Listed}
 use Rattle.packetizer.specs.Call.{mtuLimit, unitPlan, planned}
+use Rattle.packetizer.specs.declared.Planned.{Planned}
 use Rattle.payloader.specs.Payload.{payloadsOf}
-use Rattle.payloader.specs.Call.{written}
-use Rattle.payloader.specs.declared.Payloads.{Payloads}
 use Rattle.train.specs.Train.{trainHead, Numbered, recordBytes}
 use Rattle.turns.specs.Text.{lineText}
 use Rattle.turns.specs.Orders as orders
@@ -27,7 +26,7 @@ use Rattle.turns.specs.Orders.{nextCount, Told, asks, says}
 use Rattle.turns.specs.Loop.{Output, nothing, also, loop}
 use Rattle.turns.specs.declared.Subject.{Subject}
 use Rattle.turns.specs.declared.Word.{Word}
-use Rattle.packing.specs.Pack.{listRecords, outputBytes, headWidth, unitWidth, Head, found, none, headIn, Length, over, stated, cut, lengthIn, nextNumber, numbered, numberAfter, writtenRecords, answerIn, cutShort, packedBy, unitIn, Units, PackEnd, ended, cutAt, unitBy, unitAfter, unitNext, unitsFrom, unitsBy, packOf, trainBy, saidAt, saidBy, packSays}
+use Rattle.packing.specs.Pack.{listRecords, headWidth, unitWidth, Head, found, none, headIn, Length, over, stated, cut, lengthIn, nextNumber, numbered, numberAfter, writtenRecords, answerIn, cutShort, packedBy, unitIn, Units, PackEnd, ended, cutAt, unitBy, unitAfter, unitNext, unitsFrom, unitsBy, packOf, trainBy, saidAt, saidBy, packSays}
 use Rattle.packing.specs.Steps.{awaits, startsWith, headTold, lengthTold, unitTold, begins, after}
 use Rattle.packing.specs.Run.{pack, runOf}
 use Rattle.packing.specs.declared.unit.Progress.{Progress}
@@ -67,8 +66,8 @@ stated-there (b ∷ l) s e = split-on (ltb (length (b ∷ l)) unitWidth)
 
 -- ---- a unit that is packed has no more packets than its list holds
 
-module _ (mtu : ℕ) (u : List ℕ) (p : Payloads) where
-  by-planned : (a : Answer Listed) → given p ≡ written (joined (payloadsOf mtu u)) outputBytes (planned (unitPlan mtu u) listRecords a) → length (unitPlan mtu u) ≤ listRecords
+module _ (mtu : ℕ) (u : List ℕ) (p : Planned) where
+  by-planned : (a : Answer Listed) → given p ≡ planned (unitPlan mtu u) listRecords a → length (unitPlan mtu u) ≤ listRecords
   by-planned (refused k at) e = let z : _≡_ {A = ℕ} 0 1 = cc in absurd (omega arith)
   by-planned (given n) e = split-on (ltb listRecords (length (unitPlan mtu u)))
       (λ t.
@@ -77,7 +76,7 @@ module _ (mtu : ℕ) (u : List ℕ) (p : Payloads) where
       absurd (omega arith))
       (λ t. ltb-false listRecords (length (unitPlan mtu u)) t)
 
-  packets-most : given p ≡ answerIn listRecords listRecords outputBytes mtu u → length (payloadsOf mtu u) ≤ listRecords
+  packets-most : given p ≡ answerIn listRecords listRecords mtu u → length (payloadsOf mtu u) ≤ listRecords
   packets-most e = split-on (ltb mtuLimit mtu)
       (λ t.
       let f : given p ≡ refused 1 0 = rw t at e in
@@ -93,7 +92,7 @@ numbered-append n [] qs = refl
 numbered-append n (p ∷ ps) qs = ap (λ (l : List Numbered). record { number = n; payload = p } ∷ l) (numbered-append (nextNumber n) ps qs)
 
 -- an item of a stream of units has a byte
-some-answered : (i s : ℕ) (u : List ℕ) (a : Answer Payloads) → Some (unitBy i (unitWidth + s) u a)
+some-answered : (i s : ℕ) (u : List ℕ) (a : Answer Planned) → Some (unitBy i (unitWidth + s) u a)
 some-answered i s u (given p) = omega arith
 some-answered i s u (refused k at) = tt
 
@@ -102,7 +101,7 @@ some-after mtu i l over = tt
 some-after mtu i l cut = tt
 some-after mtu i l (stated s) =
     let u : List ℕ = take s (drop unitWidth l) in
-    by-cond Some (ltb (length (drop unitWidth l)) s) _ _ (λ t. tt) (λ t. some-answered i s u (answerIn listRecords listRecords outputBytes mtu u))
+    by-cond Some (ltb (length (drop unitWidth l)) s) _ _ (λ t. tt) (λ t. some-answered i s u (answerIn listRecords listRecords mtu u))
 
 pub unit-some : (mtu i : ℕ) (l : List ℕ) → Some (unitNext mtu i l)
 unit-some mtu i l = some-after mtu i l (lengthIn l)
@@ -193,20 +192,20 @@ module _ (mtu : ℕ) where
     abbrev onward : Next (List ℕ) PackEnd ℕ → Units
     onward x = chained x (λ m j. units-at j l)
 
-    by-answer : (u store : List ℕ) → take s store ≡ u → (a : Answer Payloads) → a ≡ answerIn listRecords listRecords outputBytes mtu u
-        → run turns (unitTold (within i n s) s (packedBy (payloadsOf mtu u) a)) store l ≡ outputFor n (onward (unitBy i (unitWidth + s) u a))
+    by-answer : (u store : List ℕ) → take s store ≡ u → (a : Answer Planned) → a ≡ answerIn listRecords listRecords mtu u
+        → run turns (unitTold (within i n s) s (packedBy a)) store l ≡ outputFor n (onward (unitBy i (unitWidth + s) u a))
     unfolding flatMap numbered
     by-answer u store e (refused k at) f = run-says turns (omega arith) (within i n s) _ _ store l
     by-answer u store e (given p) f =
-        run-packets i most need u store l again (payloadsOf mtu u) turns n (begins s (length (payloadsOf mtu u))) [] e refl enough (omega (arith, packets-most mtu u p f))
+        run-packets i most need u store l again (payloadsOf mtu u) turns n (begins s p) [] e refl enough (omega (arith, packets-most mtu u p f))
         ∙ ap (λ (a : List ℕ). record { written = a; said = saidAt (units-at (nextCount i) l .stop) }) (sym (records-more n u (units-at (nextCount i) l .items)))
 
     by-unit : (u store : List ℕ) (t : Bool) → (t ≡ false → take s store ≡ u)
-        → run turns (unitTold (within i n s) s (cond t cutShort (packedBy (payloadsOf mtu u) (answerIn listRecords listRecords outputBytes mtu u)))) store l
-        ≡ outputFor n (onward (cond t (halt (cutAt i)) (unitBy i (unitWidth + s) u (answerIn listRecords listRecords outputBytes mtu u))))
+        → run turns (unitTold (within i n s) s (cond t cutShort (packedBy (answerIn listRecords listRecords mtu u)))) store l
+        ≡ outputFor n (onward (cond t (halt (cutAt i)) (unitBy i (unitWidth + s) u (answerIn listRecords listRecords mtu u))))
     unfolding flatMap numbered
     by-unit u store true e = run-says turns (omega arith) (within i n s) _ _ store l
-    by-unit u store false e = by-answer u store (e refl) (answerIn listRecords listRecords outputBytes mtu u) refl
+    by-unit u store false e = by-answer u store (e refl) (answerIn listRecords listRecords mtu u) refl
 
   -- ---- by the length that was read
 
@@ -219,7 +218,7 @@ module _ (mtu : ℕ) where
         ∙ ap (λ (y : Length). chained (unitAfter mtu i l y) (λ m j. units-at j (drop m l))) (sym (length-front l) ∙ e)
 
     -- the rest begins after the bytes of the unit
-    rest-units : (m : ℕ) (u : List ℕ) (t : Bool) (a : Answer Payloads)
+    rest-units : (m : ℕ) (u : List ℕ) (t : Bool) (a : Answer Planned)
         → chained (cond t (halt (cutAt i)) (unitBy i (unitWidth + m) u a)) (λ k j. units-at j (drop k l))
         ≡ chained (cond t (halt (cutAt i)) (unitBy i (unitWidth + m) u a)) (λ k j. units-at j (drop m (drop unitWidth l)))
     rest-units m u true a = refl
@@ -238,7 +237,7 @@ module _ (mtu : ℕ) where
         (rw (take-take m m r (omega arith), short-front m r)
         (by-unit i turns need (drop m r) (a .1) k n m (omega arith) (omega (arith, a .0)) (take m r) (front (take m r) s) (ltb (length r) m)
         (λ t. take-at (take m r) (drop (length (take m r)) s) m (length-take-le m r (ltb-false (length r) m t)))))
-        ∙ sym (ap (outputFor n) (units-by (stated m) e ∙ rest-units m (take m r) (ltb (length r) m) (answerIn listRecords listRecords outputBytes mtu (take m r))))
+        ∙ sym (ap (outputFor n) (units-by (stated m) e ∙ rest-units m (take m r) (ltb (length r) m) (answerIn listRecords listRecords mtu (take m r))))
 
   -- ---- all units
 

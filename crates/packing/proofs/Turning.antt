@@ -30,47 +30,50 @@ gives-as e g = rw e g
 
 -- ---- the stores
 
-module _ (input plan out : List ℕ) where
-  pub ready-as : {p q : Place} → p ≡ q → ReadyAt q input plan out → ReadyAt p input plan out
+module _ (input obus plan : List ℕ) where
+  pub ready-as : {p q : Place} → p ≡ q → ReadyAt q input obus plan → ReadyAt p input obus plan
   ready-as e r = rw e r
 
-  pub ready-given : {t : Told Place} {turn : Turn} {line line′ : List ℕ} → Gives t turn line line′ → ReadyAt (t .place) input plan out → ReadyAt (turn .place) input plan out
+  pub ready-given : {t : Told Place} {turn : Turn} {line line′ : List ℕ} → Gives t turn line line′ → ReadyAt (t .place) input obus plan → ReadyAt (turn .place) input obus plan
   ready-given {t} {turn} g r = ready-as {p = turn .place} {q = t .place} (g .turned .0 .place-is) r
 
-  pub head-ready : (p : Place) (x : Head) → ReadyAt (headTold p x .place) input plan out
+  pub head-ready : (p : Place) (x : Head) → ReadyAt (headTold p x .place) input obus plan
   head-ready p (found h) = tt
   head-ready p none = tt
 
-  pub length-ready : (p : Place) (l : List ℕ) → ReadyAt (lengthTold p (lengthIn l) .place) input plan out
+  pub length-ready : (p : Place) (l : List ℕ) → ReadyAt (lengthTold p (lengthIn l) .place) input obus plan
   length-ready p l = go (lengthIn l) refl
     where
-      go : (x : Length) → x ≡ lengthIn l → ReadyAt (lengthTold p x .place) input plan out
+      go : (x : Length) → x ≡ lengthIn l → ReadyAt (lengthTold p x .place) input obus plan
       go over e = tt
       go cut e = tt
       go (stated s) e = stated-within l s e
 
--- where packets are waited for
-pub ready-at : (mtu : ℕ) (input plan out : List ℕ) {w : Wait} {g : Progress} → w ≡ wait.Packets g → ReadyBy w mtu input plan out → Ready mtu g (take (g .unit) input) plan out
-ready-at mtu input plan out e r = rw e at r
+-- where a unit is waited for, and where packets are
+pub unit-at : (mtu : ℕ) (input obus plan : List ℕ) {w : Wait} {n : ℕ} → w ≡ wait.Unit n → ReadyBy w mtu input obus plan → n ≤ unitStore
+unit-at mtu input obus plan e r = rw e at r
+
+pub ready-at : (mtu : ℕ) (input obus plan : List ℕ) {w : Wait} {g : Progress} → w ≡ wait.Packets g → ReadyBy w mtu input obus plan → Ready mtu g (take (g .unit) input) obus plan
+ready-at mtu input obus plan e r = rw e at r
 
 -- where nothing was read into the input while packets are written
-pub ready-still : (w : Wait) (o : Order) (mtu : ℕ) (input input′ plan out : List ℕ) → Still w o → (o .read ≡ 0 → input′ ≡ input)
-    → ReadyBy w mtu input plan out → ReadyBy w mtu input′ plan out
-ready-still wait.Head o mtu input input′ plan out s k r = tt
-ready-still wait.Length o mtu input input′ plan out s k r = tt
-ready-still (wait.Unit n) o mtu input input′ plan out s k r = r
-ready-still (wait.Packets g) o mtu input input′ plan out s k r = rw (k s) r
-ready-still wait.Nothing o mtu input input′ plan out s k r = tt
+pub ready-still : (w : Wait) (o : Order) (mtu : ℕ) (input input′ obus plan : List ℕ) → Still w o → (o .read ≡ 0 → input′ ≡ input)
+    → ReadyBy w mtu input obus plan → ReadyBy w mtu input′ obus plan
+ready-still wait.Head o mtu input input′ obus plan s k r = tt
+ready-still wait.Length o mtu input input′ obus plan s k r = tt
+ready-still (wait.Unit n) o mtu input input′ obus plan s k r = r
+ready-still (wait.Packets g) o mtu input input′ obus plan s k r = rw (k s) r
+ready-still wait.Nothing o mtu input input′ obus plan s k r = tt
 
 -- what stands first in a part of the input stands first in all of it
-pub ready-wider : (w : Wait) (mtu n : ℕ) (input plan out : List ℕ) → ReadyBy w mtu (take n input) plan out → ReadyBy w mtu input plan out
-ready-wider wait.Head mtu n input plan out r = tt
-ready-wider wait.Length mtu n input plan out r = tt
-ready-wider (wait.Unit s) mtu n input plan out r = r
-ready-wider (wait.Packets g) mtu n input plan out r =
+pub ready-wider : (w : Wait) (mtu n : ℕ) (input obus plan : List ℕ) → ReadyBy w mtu (take n input) obus plan → ReadyBy w mtu input obus plan
+ready-wider wait.Head mtu n input obus plan r = tt
+ready-wider wait.Length mtu n input obus plan r = tt
+ready-wider (wait.Unit s) mtu n input obus plan r = r
+ready-wider (wait.Packets g) mtu n input obus plan r =
     let within : g .unit ≤ n = omega (arith, r .unit-is, length-take (g .unit) (take n input), length-take n input) in
     rw (take-take (g .unit) n input within) at r
-ready-wider wait.Nothing mtu n input plan out r = tt
+ready-wider wait.Nothing mtu n input obus plan r = tt
 
 -- ---- what is written: nothing but the version byte and records
 
@@ -90,14 +93,14 @@ unit-quiet p s (packed n) l = refl
 
 -- ---- the whole step, where n bytes were read and this was waited for
 
-pub stepped : (p : Place) (c : Came) (n : ℕ) (w : Wait) (input plan out : List ℕ) (written : List ℕ) {turn : Turn} {line line′ written′ : List ℕ} → c ≡ came.Read n → p .wait ≡ w
+pub stepped : (p : Place) (c : Came) (n : ℕ) (w : Wait) (input obus plan : List ℕ) (written : List ℕ) {turn : Turn} {line line′ written′ : List ℕ} → c ≡ came.Read n → p .wait ≡ w
     → Gives (toldBy w p (take n input) input) turn line line′
     → written′ ≡ front (toldBy w p (take n input) input .written) written
-    → ReadyAt (turn .place) input plan out
+    → ReadyAt (turn .place) input obus plan
     → Gives (told p (arrival c input) input) turn line line′
     × (written′ ≡ front (told p (arrival c input) input .written) written)
-    × ReadyAt (turn .place) input plan out
-stepped p c n w input plan out written e f g o r =
+    × ReadyAt (turn .place) input obus plan
+stepped p c n w input obus plan written e f g o r =
     let l = take n input in
     rw e (
       gives-as (ap (λ (x : Wait). toldBy x p l input) f) g,

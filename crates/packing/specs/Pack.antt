@@ -5,15 +5,13 @@ use mathlib.Core.Bool.{cond, not, _||_}
 use lib.ListN.{length, getD, take, drop}
 use lib.Dec.{ltb, eqb}
 use Rattle.base.specs.Numbers.{packetNumbers}
-use Rattle.base.specs.Lists.{joined}
 use Rattle.base.specs.Answers.{Answer, given, refused}
 use Rattle.base.specs.BigEndian.{valueOf, valueAt}
 use Rattle.base.specs.Streams.{Next, item, halt, Stream, streamOf}
 use Rattle.obu.specs.Unit.{listed}
 use Rattle.packetizer.specs.Call.{mtuLimit, unitPlan, planned}
+use Rattle.packetizer.specs.declared.Planned.{Planned}
 use Rattle.payloader.specs.Payload.{payloadsOf}
-use Rattle.payloader.specs.Call.{written}
-use Rattle.payloader.specs.declared.Payloads.{Payloads}
 use Rattle.train.specs.Train.{trainHead, numberWidth, Numbered, recordBytes, trainOf}
 pub use Rattle.turns.specs.Stores.{unitStore, listRecords, outputBytes}
 use Rattle.turns.specs.Text.{lineText}
@@ -80,25 +78,23 @@ numberAfter n (p ∷ ps) = numberAfter (nextNumber n) ps
 abbrev pub writtenRecords : ℕ → ℕ → List (List ℕ) → List ℕ
 writtenRecords w n payloads = flatMap (recordBytes w) (numbered n payloads)
 
--- the payload call with space for so many OBUs, packets and bytes
-abbrev pub answerIn : ℕ → ℕ → ℕ → ℕ → List ℕ → Answer Payloads
-answerIn obus packets bytes mtu unit =
-    written (joined (payloadsOf mtu unit)) bytes
-    (cond (ltb mtuLimit mtu) (refused 1 0) (planned (unitPlan mtu unit) packets (listed obus unit)))
+-- the plan call with space for so many OBUs and packets
+abbrev pub answerIn : ℕ → ℕ → ℕ → List ℕ → Answer Planned
+answerIn obus packets mtu unit = cond (ltb mtuLimit mtu) (refused 1 0) (planned (unitPlan mtu unit) packets (listed obus unit))
 
--- a unit is cut, or refused with a number, or packed, into so many packets
+-- a unit is cut, or refused with a number, or packed: so many OBUs, into so many packets
 pub data Unit′ : Type 0 where
   cutShort : Unit′
   refusedBy : ℕ → Unit′
-  packed : ℕ → Unit′
+  packed : Planned → Unit′
 
-abbrev pub packedBy : List (List ℕ) → Answer Payloads → Unit′
-packedBy payloads (given p) = packed (length payloads)
-packedBy payloads (refused k at) = refusedBy k
+abbrev pub packedBy : Answer Planned → Unit′
+packedBy (given p) = packed p
+packedBy (refused k at) = refusedBy k
 
--- the unit of s bytes at the front of some bytes, which the payload call answers so
-unfoldable pub unitIn : (ℕ → List ℕ → Answer Payloads) → ℕ → ℕ → List ℕ → Unit′
-unitIn answer mtu s l = cond (ltb (length l) s) cutShort (packedBy (payloadsOf mtu (take s l)) (answer mtu (take s l)))
+-- the unit of s bytes at the front of some bytes, which the plan call answers so
+unfoldable pub unitIn : (ℕ → List ℕ → Answer Planned) → ℕ → ℕ → List ℕ → Unit′
+unitIn answer mtu s l = cond (ltb (length l) s) cutShort (packedBy (answer mtu (take s l)))
 
 -- ---- all units, up to the end or to the first that is cut or refused
 
@@ -112,7 +108,7 @@ abbrev pub Units : Type 0
 Units = Stream (List ℕ) PackEnd
 
 -- unit i as an item of a stream, which is packed or refused; with its length it has so many bytes
-abbrev pub unitBy : ℕ → ℕ → List ℕ → Answer Payloads → Next (List ℕ) PackEnd ℕ
+abbrev pub unitBy : ℕ → ℕ → List ℕ → Answer Planned → Next (List ℕ) PackEnd ℕ
 unitBy i span unit (given p) = item unit span (nextCount i)
 unitBy i span unit (refused k at) = halt (refusedAt i k)
 
@@ -123,7 +119,7 @@ unitAfter mtu i l cut = halt (cutAt i)
 unitAfter mtu i l (stated s) =
     cond (ltb (length (drop unitWidth l)) s)
     (halt (cutAt i))
-    (unitBy i (unitWidth + s) (take s (drop unitWidth l)) (answerIn listRecords listRecords outputBytes mtu (take s (drop unitWidth l))))
+    (unitBy i (unitWidth + s) (take s (drop unitWidth l)) (answerIn listRecords listRecords mtu (take s (drop unitWidth l))))
 
 abbrev pub unitNext : ℕ → ℕ → List ℕ → Next (List ℕ) PackEnd ℕ
 unitNext mtu i l = unitAfter mtu i l (lengthIn l)

@@ -20,4 +20,4 @@ paperLength length.Cut = pack.cut
 abbrev pub paperUnit : UnitAnswer → pack.Unit′
 paperUnit unit.Cut = pack.cutShort
 paperUnit (unit.Refused r) = pack.refusedBy (numberOf r)
-paperUnit (unit.Packed n) = pack.packed n
+paperUnit (unit.Packed p) = pack.packed p

@@ -1,14 +1,15 @@
 -- The steps of `pack`: what each turn tells the program, by what came of the one before (G2 to G4, G6, G7, G14).
-use Prim.Native.Nat.{ℕ, _+_, _*_, _≤_}
+use Prim.Native.Nat.{ℕ, _+_, _*_, _≤_, _<_}
 use mathlib.Core.Path.{_≡_}
 use mathlib.Core.List.{List, [], _∷_}
 use lib.ListN.{length, take, drop}
-use Rattle.base.specs.Lists.{joined}
-use Rattle.obu.specs.Unit.{unitLimit}
-use Rattle.obu.specs.Records.{obuNumbers}
+use Rattle.obu.specs.Unit.{unitLimit, obusOf}
+use Rattle.obu.specs.Records.{obuNumbers, flat}
 use Rattle.packetizer.specs.Call.{mtuLimit, unitPlan}
 use Rattle.packetizer.specs.Records.{planNumbers, flatPlan}
-use Rattle.payloader.specs.Payload.{payloadsOf}
+use Rattle.packetizer.specs.declared.Planned.{Planned}
+use Rattle.payloader.specs.Payload.{payloadAt, payloadsOf}
+use Rattle.payloader.specs.Inside as payloader
 use Rattle.train.specs.Train.{trainHead, numberWidth, recordBytes}
 use Rattle.train.specs.Laws.{Writable}
 use Rattle.turns.specs.Text.{lineBytes}
@@ -26,7 +27,7 @@ use Rattle.packing.specs.declared.Place.{Place}
 use Rattle.packing.specs.declared.Turn.{Turn}
 
 -- the numbers of the OBU list and of the plan list, and the bytes that are lent for a record: those of one with as long a payload as
--- the output holds
+-- the output holds (L14)
 abbrev pub obuListNumbers : ℕ
 obuListNumbers = listRecords * obuNumbers
 
@@ -60,23 +61,23 @@ lengthTold p over = ends (awaits p wait.Nothing)
 lengthTold p (stated s) = asks (awaits p (wait.Unit s)) [] s
 lengthTold p cut = says (awaits p wait.Nothing) (subject.Unit (p .count)) word.Cut 0
 
--- the first of n packets of a unit of s bytes is next
-abbrev pub begins : ℕ → ℕ → Progress
-begins s n = record { unit = s; packets = n; packet = 0 }
+-- the first packet of a unit of s bytes, planned so, is next
+abbrev pub begins : ℕ → Planned → Progress
+begins s p = record { unit = s; obus = p .obus; packets = p .packets; packet = 0 }
 
 -- after a unit of s bytes: its packets come, or the run stops
 abbrev pub unitTold : Place → ℕ → Unit′ → Told Place
-unitTold p s (packed n) = asks (awaits p (wait.Packets (begins s n))) [] 0
+unitTold p s (packed q) = asks (awaits p (wait.Packets (begins s q))) [] 0
 unitTold p s (refusedBy k) = says (awaits p wait.Nothing) (subject.Unit (p .count)) (word.Refused k) 0
 unitTold p s cutShort = says (awaits p wait.Nothing) (subject.Unit (p .count)) word.Cut 0
 
 -- the step on a unit of s bytes, of which these were read
 abbrev pub stepIn : ℕ → ℕ → List ℕ → Unit′
-stepIn = unitIn (answerIn listRecords listRecords outputBytes)
+stepIn = unitIn (answerIn listRecords listRecords)
 
 -- with these payloads left: the record of the first is written; or the next unit is read
 abbrev pub after : Progress → Progress
-after g = record { unit = g .unit; packets = g .packets; packet = g .packet + 1 }
+after g = record { unit = g .unit; obus = g .obus; packets = g .packets; packet = g .packet + 1 }
 
 abbrev pub leftTold : Place → Progress → List (List ℕ) → Told Place
 leftTold p g [] = asks (next p) [] unitWidth
@@ -118,44 +119,44 @@ told p writeFailed input = says (awaits p wait.Nothing) (writtenOf (p .wait) (p 
 
 -- ---- what a step asks, and what it gives
 
--- plan and output hold those of this unit
-pub record Ready (mtu : ℕ) (g : Progress) (unit plan out : List ℕ) : Type 0 where
+-- list and plan are those of this unit
+pub record Ready (mtu : ℕ) (g : Progress) (unit obus plan : List ℕ) : Type 0 where
   pub unit-is : length unit ≡ g .unit
   pub small : length unit ≤ unitLimit
   pub most : mtu ≤ mtuLimit
+  pub obus-room : g .obus * obuNumbers ≤ length obus
+  pub obus-is : take (g .obus * obuNumbers) obus ≡ flat (obusOf unit)
   pub packets-is : g .packets ≡ length (unitPlan mtu unit)
   pub plan-room : g .packets * planNumbers ≤ length plan
   pub plan-is : take (g .packets * planNumbers) plan ≡ flatPlan (unitPlan mtu unit)
-  pub out-room : length (joined (payloadsOf mtu unit)) ≤ length out
-  pub out-is : take (length (joined (payloadsOf mtu unit))) out ≡ joined (payloadsOf mtu unit)
 
--- a payload that is there, and space for its record, whose length field can state it
-pub record Recordable (payloads : List ℕ) (from size w : ℕ) (records : List ℕ) (at : ℕ) : Type 0 where
-  pub there : from + size ≤ length payloads
-  pub writable : Writable records at w size
-  pub room : at + (w + numberWidth + size) ≤ length records
+-- a packet that is there, and space for its record, whose length field can state its payload
+pub record Recordable (mtu : ℕ) (unit obus plan : List ℕ) (k w : ℕ) (records : List ℕ) : Type 0 where
+  pub lent : payloader.Lent mtu unit obus plan
+  pub there : k < length (unitPlan mtu unit)
+  pub writable : Writable records 0 w (length (payloadAt mtu unit k))
+  pub room : w + numberWidth + length (payloadAt mtu unit k) ≤ length records
 
 -- what has to hold of the stores where a run stands: a unit that is read fits; that whose packets are written stands first in the input
 abbrev pub ReadyBy : Wait → ℕ → List ℕ → List ℕ → List ℕ → Type 0
-ReadyBy wait.Head mtu input plan out = Unit {0}
-ReadyBy wait.Length mtu input plan out = Unit {0}
-ReadyBy (wait.Unit s) mtu input plan out = s ≤ unitStore
-ReadyBy (wait.Packets g) mtu input plan out = Ready mtu g (take (g .unit) input) plan out
-ReadyBy wait.Nothing mtu input plan out = Unit {0}
+ReadyBy wait.Head mtu input obus plan = Unit {0}
+ReadyBy wait.Length mtu input obus plan = Unit {0}
+ReadyBy (wait.Unit s) mtu input obus plan = s ≤ unitStore
+ReadyBy (wait.Packets g) mtu input obus plan = Ready mtu g (take (g .unit) input) obus plan
+ReadyBy wait.Nothing mtu input obus plan = Unit {0}
 
 abbrev pub ReadyAt : Place → List ℕ → List ℕ → List ℕ → Type 0
-ReadyAt p input plan out = ReadyBy (p .wait) (p .mtu) input plan out
+ReadyAt p input obus plan = ReadyBy (p .wait) (p .mtu) input obus plan
 
 -- what is lent to a step: exactly the stores of L12 to L14
-pub record Lent (p : Place) (c : Came) (input obus plan out written line : List ℕ) : Type 0 where
+pub record Lent (p : Place) (c : Came) (input obus plan written line : List ℕ) : Type 0 where
   pub input-is : length input ≡ unitStore
   pub obus-is : length obus ≡ obuListNumbers
   pub plan-is : length plan ≡ planListNumbers
-  pub out-is : length out ≡ outputBytes
   pub written-is : length written ≡ recordRoom
   pub line-is : length line ≡ lineBytes
   pub came-within : CameWithin c unitStore
-  pub ready : ReadyAt p input plan out
+  pub ready : ReadyAt p input obus plan
 
 -- while packets are written nothing is read, so the unit stays where it is
 abbrev pub Still : Wait → Order → Type 0
@@ -171,7 +172,7 @@ pub record Gives (t : Told Place) (turn : Turn) (line line′ : List ℕ) : Type
   pub still : Still (turn .place .wait) (turn .order)
 
 -- from here the program can go on: its order can be carried out, and the stores are ready for the next step
-pub record Goes (turn : Turn) (input plan out : List ℕ) : Type 0 where
+pub record Goes (turn : Turn) (input obus plan : List ℕ) : Type 0 where
   pub within : Within (turn .order) unitStore recordRoom
   pub still : Still (turn .place .wait) (turn .order)
-  pub ready : ReadyAt (turn .place) input plan out
+  pub ready : ReadyAt (turn .place) input obus plan

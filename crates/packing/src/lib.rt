@@ -18,10 +18,10 @@ ghost use Rattle.base.specs.Lists.{front};
 ghost use Rattle.payloader.specs.Payload.{payloadsOf};
 ghost use Rattle.turns.specs.Text.{lineBytes};
 ghost use Rattle.turns.specs.Orders.{arrival, says};
-ghost use Rattle.packing.specs.Pack.{unitStore, outputBytes, headIn, lengthIn};
+ghost use Rattle.packing.specs.Pack.{unitStore, headIn, lengthIn};
 ghost use Rattle.packing.specs.Steps.{obuListNumbers, planListNumbers, recordRoom, awaits, next, readOf, writtenOf, startsWith, headTold, lengthTold, unitTold, stepIn, packetTold, told, Ready, ReadyAt, Gives, Lent};
 
-// The bytes of a unit and of the output (L12, L14).
+// The bytes of a unit, and of the longest payload that there is room for (L12, L14).
 pub const UNIT_STORE: usize = turns::UNIT_STORE;
 
 pub const OUTPUT_BYTES: usize = turns::OUTPUT_BYTES;
@@ -155,23 +155,23 @@ fn unit_step(
     got: &[u8],
     obus: &mut [u32],
     plan: &mut [u32],
-    out: &mut [u8],
     line: &mut [u8],
 ) -> Turn
-    requires { ⌜ (stated ≤ unitStore) × (length (now obus) ≡ obuListNumbers) × (length (now plan) ≡ planListNumbers) × (length (now out) ≡ outputBytes) × (length (now line) ≡ lineBytes) ⌝ }
+    requires { ⌜ (stated ≤ unitStore) × (length (now obus) ≡ obuListNumbers) × (length (now plan) ≡ planListNumbers) × (length (now line) ≡ lineBytes) ⌝ }
     ensures { λ r. ⌜ Gives (unitTold place stated (stepIn (place .mtu) stated (now (got .entry)))) r (now (line .entry)) (now (line .exit))
-        × ReadyAt (r .place) (now (got .entry)) (now (plan .exit)) (now (out .exit)) ⌝ }
+        × ReadyAt (r .place) (now (got .entry)) (now (obus .exit)) (now (plan .exit)) ⌝ }
 {
-    match unit::pack_unit(place.mtu, stated, got, obus, plan, out) {
+    match unit::pack_unit(place.mtu, stated, got, obus, plan) {
         UnitAnswer::Cut => say(place, Subject::Unit(place.count), Word::Cut, line),
         UnitAnswer::Refused(refusal) => {
             let word = Word::Refused(base::number(refusal));
             say(place, Subject::Unit(place.count), word, line)
         }
-        UnitAnswer::Packed(packets) => {
+        UnitAnswer::Packed(planned) => {
             let first = Progress {
                 unit: stated,
-                packets: packets,
+                obus: planned.obus,
+                packets: planned.packets,
                 packet: 0,
             };
             Turn {
@@ -187,27 +187,33 @@ fn record_turn(
     place: Place,
     progress: Progress,
     unit: &[u8],
+    obus: &[u32],
     plan: &[u32],
-    out: &[u8],
     written: &mut [u8],
 ) -> Turn
-    requires { ⌜ Ready (place .mtu) progress (now unit) (now plan) (now out) ⌝ }
+    requires { ⌜ Ready (place .mtu) progress (now unit) (now obus) (now plan) ⌝ }
     requires { ⌜ (progress .packet < progress .packets) × (length (now written) ≡ recordRoom) ⌝ }
     ensures { λ r. ⌜ ((line : List ℕ) → Gives (packetTold place progress (payloadsOf (place .mtu) (now (unit .entry)))) r line line)
         × (now (written .exit) ≡ front (packetTold place progress (payloadsOf (place .mtu) (now (unit .entry))) .written) (now (written .entry)))
-        × ReadyAt (r .place) (now (unit .entry)) (now (plan .entry)) (now (out .entry)) ⌝ }
+        × ReadyAt (r .place) (now (unit .entry)) (now (obus .entry)) (now (plan .entry)) ⌝ }
 {
-    let packets = progress.packets;
-    let filled = packets * packetizer::PLAN_NUMBERS;
+    let listed = progress.obus * obu::OBU_NUMBERS;
+    let recorded = progress.packets * packetizer::PLAN_NUMBERS;
     let k = progress.packet;
-    let p = packetizer::packet_at(&plan[..filled], k);
-    let from = p.payload_start as usize;
-    let size = p.packet_size as usize + 1;
-    let width = train::LENGTH_WIDTH;
-    let end = unit::put_record(out, from, size, width, place.number, written, 0);
+    let end = unit::put_record(
+        place.mtu,
+        unit,
+        &obus[..listed],
+        &plan[..recorded],
+        k,
+        train::LENGTH_WIDTH,
+        place.number,
+        written,
+    );
     let after = Progress {
         unit: progress.unit,
-        packets: packets,
+        obus: progress.obus,
+        packets: progress.packets,
         packet: k + 1,
     };
     Turn {
@@ -226,18 +232,18 @@ fn packet_step(
     place: Place,
     progress: Progress,
     unit: &[u8],
+    obus: &[u32],
     plan: &[u32],
-    out: &[u8],
     written: &mut [u8],
 ) -> Turn
-    requires { ⌜ Ready (place .mtu) progress (now unit) (now plan) (now out) ⌝ }
+    requires { ⌜ Ready (place .mtu) progress (now unit) (now obus) (now plan) ⌝ }
     requires { ⌜ length (now written) ≡ recordRoom ⌝ }
     ensures { λ r. ⌜ ((line : List ℕ) → Gives (packetTold place progress (payloadsOf (place .mtu) (now (unit .entry)))) r line line)
         × (now (written .exit) ≡ front (packetTold place progress (payloadsOf (place .mtu) (now (unit .entry))) .written) (now (written .entry)))
-        × ReadyAt (r .place) (now (unit .entry)) (now (plan .entry)) (now (out .entry)) ⌝ }
+        × ReadyAt (r .place) (now (unit .entry)) (now (obus .entry)) (now (plan .entry)) ⌝ }
 {
     if progress.packet < progress.packets {
-        return record_turn(place, progress, unit, plan, out, written);
+        return record_turn(place, progress, unit, obus, plan, written);
     }
     Turn {
         place: following(place),
@@ -273,21 +279,20 @@ fn written_subject(wait: Wait, k: u64) -> Subject
 
 // The next turn, by what came of the one before: all that `pack` decides.
 // Helper: every store must have exactly its length (L12 to L14), no more bytes may have come than the input holds, a unit that is waited
-// for must fit, and while its packets are written it must stand first in the input, its plan and payloads as the step before left them.
+// for must fit, and while its packets are written it must stand first in the input, its list and plan as the step before left them.
 pub fn step(
     place: Place,
     came: Came,
     input: &[u8],
     obus: &mut [u32],
     plan: &mut [u32],
-    out: &mut [u8],
     written: &mut [u8],
     line: &mut [u8],
 ) -> Turn
-    requires { ⌜ Lent place came (now input) (now obus) (now plan) (now out) (now written) (now line) ⌝ }
+    requires { ⌜ Lent place came (now input) (now obus) (now plan) (now written) (now line) ⌝ }
     ensures { λ r. ⌜ Gives (told place (arrival came (now (input .entry))) (now (input .entry))) r (now (line .entry)) (now (line .exit))
         × (now (written .exit) ≡ front (told place (arrival came (now (input .entry))) (now (input .entry)) .written) (now (written .entry)))
-        × ReadyAt (r .place) (now (input .entry)) (now (plan .exit)) (now (out .exit)) ⌝ }
+        × ReadyAt (r .place) (now (input .entry)) (now (obus .exit)) (now (plan .exit)) ⌝ }
 {
     let wait = place.wait;
     let count = place.count;
@@ -303,10 +308,10 @@ pub fn step(
         Came::Read(n) => match wait {
             Wait::Head => head_step(place, &input[..n], written, line),
             Wait::Length => length_step(place, &input[..n], line),
-            Wait::Unit(stated) => unit_step(place, stated, &input[..n], obus, plan, out, line),
+            Wait::Unit(stated) => unit_step(place, stated, &input[..n], obus, plan, line),
             Wait::Packets(progress) => {
                 let unit = progress.unit;
-                packet_step(place, progress, &input[..unit], plan, out, written)
+                packet_step(place, progress, &input[..unit], obus, plan, written)
             }
             Wait::Nothing => Turn {
                 place: place,

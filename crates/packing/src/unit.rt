@@ -1,51 +1,59 @@
-// One unit planned and its payloads made, and one record of them at a time (G3, G4).
+// One unit planned, and the record of one of its packets at a time (G3, G4).
 use base::Refusal;
-use payloader::PayloadAnswer;
+use packetizer::PlanAnswer;
+use packetizer::Planned;
 ghost use mathlib.Core.Path.{_≡_};
-ghost use Prim.Native.Nat.{ℕ, _/_, _≤_};
-ghost use lib.ListN.{length, take, drop};
+ghost use Prim.Native.Nat.{_/_, _≤_};
+ghost use lib.ListN.{length, take};
 ghost use Rattle.base.specs.Lists.{Put};
 ghost use Rattle.obu.specs.Records.{obuNumbers};
 ghost use Rattle.packetizer.specs.Records.{planNumbers};
+ghost use Rattle.packetizer.specs.declared.Planned.{Planned};
+ghost use Rattle.payloader.specs.Payload.{payloadAt};
 ghost use Rattle.train.specs.Train.{recordBytes};
 ghost use Rattle.packing.specs.Pack.{unitStore, answerIn, unitIn};
 ghost use Rattle.packing.specs.Paper.{paperUnit};
 ghost use Rattle.packing.specs.Steps.{begins, Ready, Recordable};
 
-// The packets of a unit that is packed: how many bytes it has, how many packets, and which is the next to be written.
+// The packets of a unit that is packed: how many bytes it has, how many OBUs and packets, and which packet is the next to be written.
 pub struct Progress {
     pub unit: usize,
+    pub obus: usize,
     pub packets: usize,
     pub packet: usize,
 }
 
-// A unit is packed, into so many packets; or refused, or cut.
+// A unit is packed, so many OBUs into so many packets; or refused, or cut.
 pub enum UnitAnswer {
-    Packed(usize),
+    Packed(Planned),
     Refused(Refusal),
     Cut,
 }
 
-// Writes one record, with a length field of this width and a payload that stands at `from`, at the cursor `at`, and returns the cursor
-// after it.
-// Helper: the payload must be there, the field able to state its length, and `records` must have space for the record.
+// Writes the record of packet k, with a length field of this width: what stands before the payload, and the payload right behind it.
+// Returns how many bytes it has.
+// Helper: the lists must hold the records of this unit and of its plan and nothing else, packet k be there, the field able to state the
+// payload's length, and `written` must have space for the record.
 pub fn put_record(
-    payloads: &[u8],
-    from: usize,
-    size: usize,
+    mtu: usize,
+    unit: &[u8],
+    obus: &[u32],
+    plan: &[u32],
+    k: usize,
     width: usize,
     number: u16,
-    records: &mut [u8],
-    at: usize,
+    written: &mut [u8],
 ) -> usize
-    requires { ⌜ Recordable (now payloads) from size width (now records) at ⌝ }
-    ensures { λ r. ⌜ Put (now (records .entry)) (now (records .exit)) at r (recordBytes width (record { number = number; payload = take size (drop from (now (payloads .entry))) })) ⌝ }
+    requires { ⌜ Recordable mtu (now unit) (now obus) (now plan) k width (now written) ⌝ }
+    ensures { λ r. ⌜ Put (now (written .entry)) (now (written .exit)) 0 r (recordBytes width (record { number = number; payload = payloadAt mtu (now (unit .entry)) k })) ⌝ }
 {
-    let body = train::put_record_head(records, at, width, number, size);
-    base::copy_bytes(payloads, from, size, records, body)
+    let size = packetizer::packet_at(plan, k).packet_size as usize + 1;
+    let body = train::put_record_head(written, 0, width, number, size);
+    let new = aggregation::new_at(unit, obus, k);
+    payloader::put_packet(mtu, unit, obus, plan, k, new, written, body)
 }
 
-// Plan and payloads of a unit of so many bytes, which stands at the front of the bytes given, or what there is of it.
+// List and plan of a unit of so many bytes, which stands at the front of the bytes given, or what there is of it.
 // Helper: the stated length must be at most that of the unit store.
 pub fn pack_unit(
     mtu: usize,
@@ -53,17 +61,16 @@ pub fn pack_unit(
     bytes: &[u8],
     obus: &mut [u32],
     plan: &mut [u32],
-    out: &mut [u8],
 ) -> UnitAnswer
     requires { ⌜ stated ≤ unitStore ⌝ }
-    ensures { λ r. ⌜ (paperUnit r ≡ unitIn (answerIn (length (now (obus .entry)) / obuNumbers) (length (now (plan .entry)) / planNumbers) (length (now (out .entry)))) mtu stated (now (bytes .entry)))
-        × ((n : ℕ) → r ≡ UnitAnswer.Packed n → Ready mtu (begins stated n) (take stated (now (bytes .entry))) (now (plan .exit)) (now (out .exit))) ⌝ }
+    ensures { λ r. ⌜ (paperUnit r ≡ unitIn (answerIn (length (now (obus .entry)) / obuNumbers) (length (now (plan .entry)) / planNumbers)) mtu stated (now (bytes .entry)))
+        × ((p : Planned) → r ≡ UnitAnswer.Packed p → Ready mtu (begins stated p) (take stated (now (bytes .entry))) (now (obus .exit)) (now (plan .exit))) ⌝ }
 {
     if bytes.len() < stated {
         return UnitAnswer::Cut;
     }
-    match payloader::payload(mtu, &bytes[..stated], obus, plan, out) {
-        PayloadAnswer::Refused { refusal, at: _ } => UnitAnswer::Refused(refusal),
-        PayloadAnswer::Written(written) => UnitAnswer::Packed(written.packets),
+    match packetizer::plan_unit(mtu, &bytes[..stated], obus, plan) {
+        PlanAnswer::Refused { refusal, at: _ } => UnitAnswer::Refused(refusal),
+        PlanAnswer::Planned(planned) => UnitAnswer::Packed(planned),
     }
 }

@@ -2,3 +2,5 @@
 pub mod Rows
 pub mod New
 pub mod Lengths
+pub mod Writing
+pub mod Singly

@@ -1,25 +1,34 @@
--- The rows of U marked P, on the payload call: payloads, or the refusal with its offset. Computed; assumes nothing.
+-- The rows of U marked P: payloads, or the refusal with its offset. Computed; assumes nothing.
+--     table    by one call for the whole unit
+--     singly   by the plan call, and then a call for each packet
 use mathlib.Core.Path.{_≡_, refl}
 use Prim.Native.Nat.{ℕ}
 use mathlib.Core.List.{List, [], _∷_, map, flatMap}
-use lib.ListN.{replicate}
+use lib.ListN.{take, replicate}
 use Rattle.base.specs.Answers.{Answer, given, refused}
-use Rattle.base.specs.Lists.{keep}
+use Rattle.base.specs.Lists.{keep, isFront}
 use Rattle.base.specs.Streams.{streamFrom}
 use Rattle.leb128.specs.Field.{fieldIn, encodeIn}
 use Rattle.obu.specs.Front.{frontOf, headed}
-use Rattle.obu.specs.Unit.{listed}
+use Rattle.obu.specs.Unit.{listed, sameList}
 use Rattle.packetizer.specs.Fragment.{largestFragment}
 use Rattle.packetizer.specs.Plan.{chargeOf, isFull, needOf, fragmentOf, spread, insert, place, planFrom, planOf}
 use Rattle.packetizer.specs.Elements.{elementsFrom}
-use Rattle.packetizer.specs.Call.{planAnswer}
+use Rattle.packetizer.specs.Call.{toPlan, planAnswer, planUnit, samePlan}
+use Rattle.packetizer.specs.declared.Planned.{Planned}
 use Rattle.aggregation.specs.New.{beforeFrame, fromFrame, nOf}
 use Rattle.aggregation.specs.Header.{byteOf}
 use Rattle.payloader.specs.Payload.{fielded, payload, payloadsFrom, payloadsOf}
-use Rattle.payloader.specs.Call.{toWrite, payloadAnswer}
-use Rattle.payloader.specs.declared.Payloads.{Payloads}
+use Rattle.payloader.specs.Call.{After, answerFor, writePacket}
+use Rattle.payloader.specs.declared.Written.{Written}
+use Rattle.payload_laws.specs.Whole.{Payloads, wholeAnswer}
+use Rattle.payload_laws.specs.Singly.{afterPlan, runOf}
 
--- what the payload call gives, or why it refuses, with ample lists and output
+-- lists and output that are long enough
+abbrev ample : List ℕ
+ample = replicate 40 0
+
+-- what one call for the whole unit gives, or why it refuses
 byAnswer : List (List ℕ) → Answer Payloads → Answer (List (List ℕ))
 byAnswer payloads (given p) = given payloads
 byAnswer payloads (refused n at) = refused n at
@@ -33,7 +42,7 @@ row : ℕ → List ℕ → Answer (List (List ℕ)) → Row
 row mtu unit result = record { mtu = mtu; unit = unit; result = result }
 
 pub answered : Row → Answer (List (List ℕ))
-answered r = byAnswer (payloadsOf (r .mtu) (r .unit)) (payloadAnswer (toWrite (r .mtu) (r .unit) (replicate 40 0) (replicate 40 0) (replicate 40 0)))
+answered r = byAnswer (payloadsOf (r .mtu) (r .unit)) (wholeAnswer (toPlan (r .mtu) (r .unit) ample ample) ample)
 
 -- U1 to U6, U8 to U10, U12 to U16
 pub rows : List Row
@@ -55,5 +64,25 @@ rows =
     ∷ []
 
 pub table : map answered rows ≡ map (λ (r : Row). r .result) rows
-unfolding answered byAnswer row rows payloadAnswer planAnswer listed streamFrom frontOf headed fieldIn keep encodeIn planOf planFrom place insert spread fragmentOf needOf isFull chargeOf largestFragment elementsFrom nOf beforeFrame fromFrame byteOf fielded payload payloadsFrom flatMap
+unfolding answered byAnswer row rows wholeAnswer planAnswer listed streamFrom frontOf headed fieldIn keep encodeIn planOf planFrom place insert spread fragmentOf needOf isFull chargeOf largestFragment elementsFrom nOf beforeFrame fromFrame byteOf fielded payload payloadsFrom flatMap
 table = refl
+
+-- ---- the same by the plan call, and then a call for each packet, into an output of its own: its first bytes, as many as the answer says
+
+firstBytes : After → Answer Written → List ℕ
+firstBytes a (given w) = take (w .bytes) (a .out)
+firstBytes a (refused n at) = []
+
+packet : Row → ℕ → List ℕ
+packet r k = let a = writePacket k (afterPlan (r .mtu) (r .unit) ample ample ample) in firstBytes a (a .answer)
+
+byPlan : Row → Answer Planned → Answer (List (List ℕ))
+byPlan r (given p) = given (map (packet r) (runOf 0 (p .packets)))
+byPlan r (refused n at) = refused n at
+
+pub answeredSingly : Row → Answer (List (List ℕ))
+answeredSingly r = byPlan r (planUnit (toPlan (r .mtu) (r .unit) ample ample) .answer)
+
+pub singly : map answeredSingly rows ≡ map (λ (r : Row). r .result) rows
+unfolding answeredSingly byPlan packet firstBytes runOf answerFor samePlan sameList isFront row rows planAnswer listed streamFrom frontOf headed fieldIn keep encodeIn planOf planFrom place insert spread fragmentOf needOf isFull chargeOf largestFragment elementsFrom nOf beforeFrame fromFrame byteOf fielded payload payloadsFrom flatMap
+singly = refl

@@ -1,1 +1,1 @@
-// Laws of the payloads. There is no code here: proofs/ has the theorems.
+// Laws of the payloads. There is no code here: specs/ has statements, and proofs/ the theorems.

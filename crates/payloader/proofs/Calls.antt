@@ -1,107 +1,82 @@
--- The payload call, by what the plan call answers. Assumes nothing.
+-- The writing calls, by what comparing the lists answers. Assumes nothing.
+--     one-packet   a run of one packet is that packet alone
 use mathlib.Core.Path.{_≡_, refl, sym, ap, _∙_}
-use Prim.Native.Nat.{ℕ, _*_, _/_, _≤_, _<_}
+use Prim.Native.Nat.{ℕ, _-_, _≤_, _<_}
 use native.Mathlib.Nat.{zero-add}
 use native.Mathlib.Omega.{arith}
+use mathlib.Core.Bool.{Bool, true, false}
 use mathlib.Core.List.{List}
-use lib.ListN.{length, length-map}
+use lib.ListN.{length}
 use lib.Seq.{sets, sets-eq}
-use lib.Dec.{ltb}
-use borrow.Author.Tests.{lt-ltb, le-ltb, ltb-false}
+use lib.Dec.{ltb, leb}
+use borrow.Author.Tests.{lt-ltb, le-ltb, ltb-true, ltb-false, le-leb, lt-leb}
 use Rattle.base.specs.Answers.{Answer, given, refused, stored}
 use Rattle.base.specs.Lists.{front, joined}
 use Rattle.base.proofs.Tests.{split-on}
-use Rattle.obu.specs.Unit.{unitLimit, Placed, keptOf, obusOf, listAnswer}
-use Rattle.obu.specs.Records.{obuNumbers, flat}
-use Rattle.obu.specs.declared.Listed.{Listed}
-use Rattle.packetizer.specs.Call.{mtuLimit, unitPlan, toPlan, planned, planAnswer, planUnit}
-use Rattle.packetizer.specs.Call as call
-use Rattle.packetizer.specs.Records.{planNumbers, flatPlan}
+use Rattle.packetizer.specs.Call.{unitPlan, samePlan}
 use Rattle.packetizer.specs.declared.Planned.{Planned}
-use Rattle.packetizer.proofs.Calls.{given-kept}
-use Rattle.payloader.specs.Payload.{payloadsOf}
-use Rattle.payloader.specs.Call.{written, Inputs, toWrite, leaves, payloadAnswer, writeUnit}
-use Rattle.payloader.specs.declared.Payloads.{Payloads}
+use Rattle.packetizer.proofs.Same.{same-means}
+use Rattle.payloader.specs.Payload.{payloadAt}
+use Rattle.payloader.specs.Call.{written, Inputs, After, leaves, answerFor, writes, writePacket, packetsFrom, writePackets}
+use Rattle.payloader.specs.declared.Written.{Written}
+use Rattle.payloader.proofs.Runs.{run-one}
 
--- ---- what is known where the plan call answers with numbers
-
-pub record Accepted (mtu : ℕ) (unit obus plan : List ℕ) (p : Planned) : Type 0 where
-  pub small : length unit ≤ unitLimit
-  pub most : mtu ≤ mtuLimit
-  pub listed : p .obus ≡ length (obusOf unit)
-  pub packets : p .packets ≡ length (unitPlan mtu unit)
-  pub obus-room : p .obus * obuNumbers ≤ length obus
-  pub plan-room : p .packets * planNumbers ≤ length plan
-  pub obus-is : planUnit (toPlan mtu unit obus plan) .obus ≡ front (flat (obusOf unit)) obus
-  pub plan-is : planUnit (toPlan mtu unit obus plan) .plan ≡ front (flatPlan (unitPlan mtu unit)) plan
-
-module _ (mtu : ℕ) (unit obus plan : List ℕ) (p : Planned) (e : given p ≡ planAnswer (toPlan mtu unit obus plan)) where
-  by-list : mtu ≤ mtuLimit → (a : Answer Listed) → a ≡ listAnswer unit obus → given p ≡ planned (unitPlan mtu unit) (length plan / planNumbers) a → Accepted mtu unit obus plan p
-  by-list m (refused n at) q f = let z : _≡_ {A = ℕ} 0 1 = cc in absurd (omega arith)
-  by-list m (given l) q f = split-on (ltb (length plan / planNumbers) (length (unitPlan mtu unit)))
-      (λ t.
-      let g : given p ≡ refused 9 0 = rw t at f in
-      let z : _≡_ {A = ℕ} 0 1 = cc in
-      absurd (omega arith))
-      (λ t.
-      let g : given p ≡ given (record { obus = l .obus; packets = length (unitPlan mtu unit) }) = rw t at f in
-      let r : p ≡ record { obus = l .obus; packets = length (unitPlan mtu unit) } = cc in
-      let k = given-kept unit (length obus / obuNumbers) l q in
-      let n : l .obus ≡ length (keptOf unit) = ap (λ (x : Listed). x .obus) (k .1) in
-      let most : length (unitPlan mtu unit) ≤ length plan / planNumbers = ltb-false (length plan / planNumbers) (length (unitPlan mtu unit)) t in
-      let po : p .obus ≡ l .obus = ap (λ (x : Planned). x .obus) r in
-      let pp : p .packets ≡ length (unitPlan mtu unit) = ap (λ (x : Planned). x .packets) r in
-      record {
-        small = k .0;
-        most = m;
-        listed = po ∙ n ∙ sym (length-map (keptOf unit) (λ (x : Placed). x .obu));
-        packets = pp;
-        obus-room = omega (arith, po, n, k .2);
-        plan-room = omega (arith, pp, most);
-        obus-is = rw (le-ltb mtuLimit mtu m) (ap (λ (a : Answer Listed). stored a (flat (obusOf unit)) obus) (sym q));
-        plan-is = ap (λ (a : Answer Planned). stored a (flatPlan (unitPlan mtu unit)) plan) (sym e);
-      })
-
-  pub accepted : Accepted mtu unit obus plan p
-  unfolding planAnswer
-  accepted = split-on (ltb mtuLimit mtu)
-      (λ t.
-      let g : given p ≡ refused 1 0 = rw t at e in
-      let z : _≡_ {A = ℕ} 0 1 = cc in
-      absurd (omega arith))
-      (λ t. by-list (ltb-false mtuLimit mtu t) (listAnswer unit obus) refl (rw t at e))
+-- what comparing the lists answers
+abbrev pub compares : Inputs → Answer Planned
+compares i = samePlan (i .mtu) (i .unit) (i .obus) (i .plan)
 
 -- ---- the outcomes
 
-module _ (mtu : ℕ) (unit obus plan out : List ℕ) where
-  abbrev i : Inputs
-  i = toWrite mtu unit obus plan out
+module _ (there : ℕ → Bool) (bytes : List ℕ) (i : Inputs) where
+  outcome : (r : Answer Written) (out′ : List ℕ) → r ≡ answerFor there bytes i → out′ ≡ stored r bytes (i .out) → leaves r out′ ≡ writes there bytes i
+  outcome r out′ e s =
+      let t : out′ ≡ stored (answerFor there bytes i) bytes (i .out) = s ∙ ap (λ (x : Answer Written). stored x bytes (i .out)) e in
+      λ j. leaves (e j) (t j)
 
-  abbrev bytesOf : List ℕ
-  bytesOf = joined (payloadsOf mtu unit)
+  pub outcome-refused : (n at : ℕ) → refused n at ≡ compares i → leaves (refused n at) (i .out) ≡ writes there bytes i
+  unfolding answerFor
+  outcome-refused n at e = outcome (refused n at) (i .out) (ap (written there bytes (length (i .out))) e) refl
 
-  -- with what the plan call has left
-  module _ {a : Answer Planned} {obus′ plan′ : List ℕ} (l : call.leaves a obus′ plan′ ≡ planUnit (toPlan mtu unit obus plan)) where
-    planned-is : a ≡ planAnswer (toPlan mtu unit obus plan)
-    planned-is = ap (λ (x : call.After). x .answer) l
+  module _ (p : Planned) (e : given p ≡ compares i) where
+    pub outcome-11 : there (p .packets) ≡ false → leaves (refused 11 0) (i .out) ≡ writes there bytes i
+    unfolding answerFor
+    outcome-11 t = outcome (refused 11 0) (i .out) (rw (← e, t)) refl
 
-    outcome : (r : Answer Payloads) (out′ : List ℕ) → r ≡ payloadAnswer i → out′ ≡ stored r bytesOf out → leaves r obus′ plan′ out′ ≡ writeUnit i
-    outcome r out′ e s =
-        let t : out′ ≡ writeUnit i .out = s ∙ ap (λ (x : Answer Payloads). stored x bytesOf out) e in
-        λ j. leaves (e j) (l j .obus) (l j .plan) (t j)
+    module _ (t : there (p .packets) ≡ true) (n : ℕ) (b : n ≡ length bytes) where
+      pub outcome-10 : length (i .out) < n → leaves (refused 10 0) (i .out) ≡ writes there bytes i
+      unfolding answerFor
+      outcome-10 h = outcome (refused 10 0) (i .out) (rw (← e, t, lt-ltb (length (i .out)) (length bytes) (omega arith))) refl
 
-    pub outcome-refused : (n at : ℕ) → refused n at ≡ a → leaves (refused n at) obus′ plan′ out ≡ writeUnit i
-    unfolding payloadAnswer
-    outcome-refused n at e = outcome (refused n at) out (ap (written bytesOf (length out)) (e ∙ planned-is)) refl
-
-    module _ (p : Planned) (e : given p ≡ a) (bytes : ℕ) (b : bytes ≡ length bytesOf) where
-      pub outcome-10 : length out < bytes → leaves (refused 10 0) obus′ plan′ out ≡ writeUnit i
-      unfolding payloadAnswer
-      outcome-10 h = outcome (refused 10 0) out (rw (← e ∙ planned-is, lt-ltb (length out) (length bytesOf) (omega arith))) refl
-
-      pub outcome-written : bytes ≤ length out → {out′ : List ℕ} → out′ ≡ sets out 0 bytesOf
-          → leaves (given (record { obus = p .obus; packets = p .packets; bytes = bytes })) obus′ plan′ out′ ≡ writeUnit i
-      unfolding payloadAnswer
+      pub outcome-written : n ≤ length (i .out) → {out′ : List ℕ} → out′ ≡ sets (i .out) 0 bytes → leaves (given (record { bytes = n })) out′ ≡ writes there bytes i
+      unfolding answerFor
       outcome-written h {out′} s =
-          outcome _ out′ (rw (← e ∙ planned-is, ← b, le-ltb (length out) bytes h))
-          (s ∙ sets-eq bytesOf out 0 (omega arith) ∙ rw (zero-add (length bytesOf)))
+          outcome _ out′ (rw (← e, t, ← b, le-ltb (length (i .out)) n h)) (s ∙ sets-eq bytes (i .out) 0 (omega arith) ∙ rw (zero-add (length bytes)))
+
+-- ---- a run of one packet
+
+alike : (i : Inputs) (there there′ : ℕ → Bool) (bytes bytes′ : List ℕ)
+    → ((p : Planned) → given p ≡ compares i → (there (p .packets) ≡ there′ (p .packets)) × (there (p .packets) ≡ true → bytes ≡ bytes′))
+    → writes there bytes i ≡ writes there′ bytes′ i
+unfolding answerFor
+alike i there there′ bytes bytes′ h = go (compares i) refl
+  where
+    by : Answer Planned → (ℕ → Bool) → List ℕ → After
+    by a t l = leaves (written t l (length (i .out)) a) (stored (written t l (length (i .out)) a) l (i .out))
+
+    go : (a : Answer Planned) → a ≡ compares i → by a there bytes ≡ by a there′ bytes′
+    go (refused n at) e = refl
+    go (given p) e = split-on (there (p .packets))
+        (λ t. rw (sym (h p e .0) ∙ t, t, h p e .1 t))
+        (λ t. rw (sym (h p e .0) ∙ t, t))
+
+pub one-packet : (k : ℕ) (i : Inputs) → writePackets k 1 i ≡ writePacket k i
+one-packet k i = alike i (λ packets. leb 1 (packets - k)) (ltb k) (joined (packetsFrom k 1 i)) (payloadAt (i .mtu) (i .unit) k)
+    (λ p e. (there p, λ t. run-one (i .mtu) (i .unit) k (inside p e t)))
+  where
+    there : (p : Planned) → leb 1 (p .packets - k) ≡ ltb k (p .packets)
+    there p = split-on (ltb k (p .packets))
+        (λ t. le-leb 1 (p .packets - k) (omega (arith, ltb-true k (p .packets) t)) ∙ sym t)
+        (λ t. lt-leb 1 (p .packets - k) (omega (arith, ltb-false k (p .packets) t)) ∙ sym t)
+
+    inside : (p : Planned) → given p ≡ compares i → leb 1 (p .packets - k) ≡ true → k < length (unitPlan (i .mtu) (i .unit))
+    inside p e t = omega (arith, ltb-true k (p .packets) (sym (there p) ∙ t), same-means e .plan-count)

@@ -4,4 +4,5 @@ pub mod Bodies
 pub mod Packets
 pub mod Totals
 pub mod Starts
+pub mod Runs
 pub mod Calls

@@ -40,7 +40,7 @@ bytes-step : (ps : List PacketMetadata) (k : ℕ) → k < length ps
 unfolding plannedBytes
 bytes-step ps k h = rw (add-one k, drop-cons ps k noPacket h)
 
-bytes-before : (ps : List PacketMetadata) (k : ℕ) → k < length ps
+pub bytes-before : (ps : List PacketMetadata) (k : ℕ) → k < length ps
     → plannedBytes (take (k + 1) ps) ≡ plannedBytes (take k ps) + (getD ps k noPacket .«packet_size» + 1)
 unfolding plannedBytes
 bytes-before ps k h = rw (add-one k, take-suc ps k noPacket h, planned-append (take k ps) (getD ps k noPacket ∷ [])) (omega arith)
@@ -146,40 +146,3 @@ module _ (mtu : ℕ) (unit : List ℕ) (small : length unit ≤ unitLimit) (byte
 
   pub joined-length : length (joined (payloadsOf mtu unit)) ≡ plannedBytes (unitPlan mtu unit)
   joined-length = rest-length 0 (omega arith)
-
--- ---- what the loop over the packets keeps: payload k starts where its record says
-
-pub record Sending (mtu : ℕ) (unit out₀ out : List ℕ) (k : ℕ) : Type 0 where
-  pub inside : k ≤ length (unitPlan mtu unit)
-  pub storing : Storing out₀ 0 (rest mtu unit 0) out (plannedBytes (take k (unitPlan mtu unit))) (rest mtu unit k)
-
-pub sending-first : {mtu : ℕ} {unit out : List ℕ} → Sending mtu unit out out 0
-unfolding plannedBytes
-sending-first {mtu} {unit} {out} = record { inside = omega arith; storing = storing-first out 0 (rest mtu unit 0) }
-
-module _ {mtu : ℕ} {unit out₀ out : List ℕ} {k : ℕ} (w : Sending mtu unit out₀ out k) where
-  pub sending-last : length (unitPlan mtu unit) ≤ k → out ≡ sets out₀ 0 (rest mtu unit 0)
-  sending-last h = storing-done (subst (Storing out₀ 0 (rest mtu unit 0) out _) (rest-end mtu unit k h) (w .storing)) .stored
-
-  module _ (h : k < length (unitPlan mtu unit)) where
-    starts : startAt mtu unit k ≡ plannedBytes (take k (unitPlan mtu unit))
-    starts = plan-starts mtu (sizesOf unit) k h
-
-    pub sending-room : length (rest mtu unit 0) ≤ length out₀ → startAt mtu unit k + length (payloadAt mtu unit k) ≤ length out
-    sending-room r =
-        omega (arith, starts, ap length (rest-step mtu unit k h), length-append (payloadAt mtu unit k) (rest mtu unit (k + 1)), w .storing .ends, w .storing .same)
-
-    pub sending-next : length unit ≤ unitLimit → Bytes unit → {out′ : List ℕ} {at : ℕ} → at ≡ startAt mtu unit k → out′ ≡ sets out at (payloadAt mtu unit k)
-        → Sending mtu unit out₀ out′ (k + 1)
-    sending-next small bytes e r =
-        record {
-          inside = omega arith;
-          storing =
-              storing-next (payloadAt mtu unit k) (rest mtu unit (k + 1)) (subst (Storing out₀ 0 (rest mtu unit 0) out _) (rest-step mtu unit k h) (w .storing))
-              (record {
-                cursor =
-                    bytes-before (unitPlan mtu unit) k h
-                    ∙ ap (λ (n : ℕ). plannedBytes (take k (unitPlan mtu unit)) + n) (sym (payload-length mtu unit small bytes k h));
-                stored = r ∙ ap (λ (at : ℕ). sets out at (payloadAt mtu unit k)) (e ∙ starts);
-              });
-        }

@@ -1,55 +1,54 @@
--- The payload call: its answer, and what it leaves in the two lent lists and the output (R10, C2, C5 to C7, C10).
-use Prim.Native.Nat.{ℕ}
+-- The calls that write packets: their answer, and what they leave in the output (R1 to R7, R31, R11, R10, C2, C7, C10).
+use Prim.Native.Nat.{ℕ, _-_}
 use mathlib.Core.List.{List}
-use mathlib.Core.Bool.{cond}
-use lib.ListN.{length}
-use lib.Dec.{ltb}
+use mathlib.Core.Bool.{Bool, cond}
+use lib.ListN.{length, take, drop}
+use lib.Dec.{ltb, leb}
 use Rattle.base.specs.Lists.{joined}
 use Rattle.base.specs.Answers.{Answer, given, refused, stored}
-use Rattle.packetizer.specs.Call as planner
+use Rattle.packetizer.specs.Call.{samePlan}
 use Rattle.packetizer.specs.declared.Planned.{Planned}
-use Rattle.payloader.specs.Payload.{payloadsOf}
-use Rattle.payloader.specs.declared.Payloads.{Payloads}
+use Rattle.payloader.specs.Payload.{payloadAt, payloadsOf}
+use Rattle.payloader.specs.declared.Written.{Written}
 
--- by what the plan call answers, with space for so many bytes
-abbrev pub written : List ℕ → ℕ → Answer Planned → Answer Payloads
-written bytes space (given p) =
-    cond (ltb space (length bytes))
-    (refused 10 0)
-    (given (record { obus = p .obus; packets = p .packets; bytes = length bytes }))
-written bytes space (refused n at) = refused n at
+-- these bytes are written, if the packets are there and the space is enough; by what comparing the lists answers
+abbrev pub written : (ℕ → Bool) → List ℕ → ℕ → Answer Planned → Answer Written
+written there bytes space (given p) =
+    cond (there (p .packets)) (cond (ltb space (length bytes)) (refused 10 0) (given (record { bytes = length bytes }))) (refused 11 0)
+written there bytes space (refused n at) = refused n at
 
--- ---- what the call is given, and what comes of it: its answer, and the two lists and the output afterwards
+-- ---- what a call is given besides the packets that it writes, and what comes of it: its answer, and the output afterwards
 
 pub record Inputs : Type 0 where
-  pub planning : planner.Inputs
-  pub out : List ℕ
-
-pub record After : Type 0 where
-  pub answer : Answer Payloads
+  pub mtu : ℕ
+  pub unit : List ℕ
   pub obus : List ℕ
   pub plan : List ℕ
   pub out : List ℕ
 
+pub record After : Type 0 where
+  pub answer : Answer Written
+  pub out : List ℕ
+
 abbrev pub toWrite : ℕ → List ℕ → List ℕ → List ℕ → List ℕ → Inputs
-toWrite mtu unit obus plan out = record { planning = planner.toPlan mtu unit obus plan; out = out }
+toWrite mtu unit obus plan out = record { mtu = mtu; unit = unit; obus = obus; plan = plan; out = out }
 
-abbrev pub leaves : Answer Payloads → List ℕ → List ℕ → List ℕ → After
-leaves answer obus plan out = record { answer = answer; obus = obus; plan = plan; out = out }
+abbrev pub leaves : Answer Written → List ℕ → After
+leaves answer out = record { answer = answer; out = out }
 
--- the payloads of the unit, one after the other
-abbrev pub unitBytes : Inputs → List ℕ
-unitBytes i = joined (payloadsOf (i .planning .mtu) (i .planning .unit))
+unfoldable pub answerFor : (ℕ → Bool) → List ℕ → Inputs → Answer Written
+answerFor there bytes i = written there bytes (length (i .out)) (samePlan (i .mtu) (i .unit) (i .obus) (i .plan))
 
-unfoldable pub payloadAnswer : Inputs → Answer Payloads
-payloadAnswer i = written (unitBytes i) (length (i .out)) (planner.planAnswer (i .planning))
+abbrev pub writes : (ℕ → Bool) → List ℕ → Inputs → After
+writes there bytes i = leaves (answerFor there bytes i) (stored (answerFor there bytes i) bytes (i .out))
 
--- the two lists are left as by the plan call
-abbrev pub writeUnit : Inputs → After
-writeUnit i =
-    record {
-      answer = payloadAnswer i;
-      obus = planner.planUnit (i .planning) .obus;
-      plan = planner.planUnit (i .planning) .plan;
-      out = stored (payloadAnswer i) (unitBytes i) (i .out);
-    }
+-- packet k alone
+abbrev pub writePacket : ℕ → Inputs → After
+writePacket k i = writes (ltb k) (payloadAt (i .mtu) (i .unit) k) i
+
+-- so many packets from one on, one after the other: none is missing if so many are left
+abbrev pub packetsFrom : ℕ → ℕ → Inputs → List (List ℕ)
+packetsFrom first count i = take count (drop first (payloadsOf (i .mtu) (i .unit)))
+
+abbrev pub writePackets : ℕ → ℕ → Inputs → After
+writePackets first count i = writes (λ packets. leb count (packets - first)) (joined (packetsFrom first count i)) i

@@ -4,6 +4,7 @@ use mathlib.Core.List.{List, [], _∷_, _++_, map}
 use mathlib.Core.Bool.{Bool, cond}
 use lib.ListN.{length, getD, take, drop}
 use lib.Dec.{ltb}
+use Rattle.base.specs.Lists.{joined}
 use Rattle.leb128.specs.Field.{encode}
 use Rattle.obu.specs.Unit.{obusOf}
 use Rattle.obu.specs.Wire.{sent}
@@ -50,3 +51,7 @@ startAt mtu unit k = getD (unitPlan mtu unit) k noPacket .«payload_start»
 
 abbrev pub payloadsOf : ℕ → List ℕ → List (List ℕ)
 payloadsOf mtu unit = payloadsFrom encode unit (obusOf unit) 0 (unitPlan mtu unit)
+
+-- Y5: all of them, one after the other: what one call that planned and wrote a whole unit would leave
+abbrev pub unitBytes : ℕ → List ℕ → List ℕ
+unitBytes mtu unit = joined (payloadsOf mtu unit)

@@ -1,4 +1,4 @@
-// The payload bytes of a unit's packets (Y1 to Y5): list and plan, the test of space, and then packet after packet.
+// The payload bytes of a unit's packets (Y1 to Y5), from its list and plan: one packet, or several one after the other.
 use base::Refusal;
 use obu::Obu;
 use packetizer::PlanAnswer;
@@ -14,22 +14,20 @@ ghost use Rattle.obu.specs.Header.{headerSize, cleared};
 ghost use Rattle.obu.specs.Wire.{extensionBytes, sent};
 ghost use Rattle.obu.specs.Laws.{Lies};
 ghost use Rattle.packetizer.specs.Records.{packetsIn};
-ghost use Rattle.packetizer.specs.Laws.{Abut, plannedBytes};
+ghost use Rattle.packetizer.specs.Laws.{plannedBytes};
 ghost use Rattle.payloader.specs.Payload.{payloadAt, payloadsOf};
-ghost use Rattle.payloader.specs.Call.{toWrite, leaves, writeUnit};
+ghost use Rattle.payloader.specs.Call.{toWrite, leaves, writePacket, writePackets};
 ghost use Rattle.payloader.specs.Paper.{paper};
-ghost use Rattle.payloader.specs.Inside.{Lent, Writable};
+ghost use Rattle.payloader.specs.Inside.{Lent, Writable, Run, Fits};
 
 // What was written.
-pub struct Payloads {
-    pub obus: usize,
-    pub packets: usize,
+pub struct Written {
     pub bytes: usize,
 }
 
-// The answer of the payload call.
-pub enum PayloadAnswer {
-    Written(Payloads),
+// The answer of the writing calls.
+pub enum WriteAnswer {
+    Written(Written),
     Refused { refusal: Refusal, at: usize },
 }
 
@@ -100,7 +98,9 @@ fn put_element(
 }
 
 // Writes packet k of a unit's plan, on which N is set if `new` says so, at the cursor `at`, and returns the cursor after it.
-fn write_packet(
+// Helper: the lists must hold the records of this unit and of its plan and nothing else, `new` must be the packet's N, and `out` must
+// have the space.
+pub fn put_packet(
     mtu: usize,
     unit: &[u8],
     obus: &[u32],
@@ -134,68 +134,102 @@ fn write_packet(
     put_element(unit, o, from, n, field, out, cursor)
 }
 
-// How many bytes the payloads of a plan take together: where the last one ends.
-fn planned_bytes(plan: &[u32]) -> usize
-    requires { ⌜ Abut 0 (packetsIn (now plan)) (plannedBytes (packetsIn (now plan))) ⌝ }
-    ensures { λ r. ⌜ r ≡ plannedBytes (packetsIn (now (plan .entry))) ⌝ }
+// How many bytes so many payloads of a plan take together, from one on: from where the first starts to where the last ends.
+fn run_bytes(plan: &[u32], first: usize, count: usize) -> usize
+    requires { ⌜ Run (packetsIn (now plan)) first count ⌝ }
+    ensures { λ r. ⌜ r ≡ plannedBytes (take count (drop first (packetsIn (now (plan .entry))))) ⌝ }
 {
-    let packets = plan.len() / packetizer::PLAN_NUMBERS;
-    if packets == 0 {
+    if count == 0 {
         return 0;
     }
-    let p = packetizer::packet_at(plan, packets - 1);
-    p.payload_start as usize + p.packet_size as usize + 1
+    let start = packetizer::packet_at(plan, first).payload_start as usize;
+    let last = packetizer::packet_at(plan, first + (count - 1));
+    last.payload_start as usize + last.packet_size as usize + 1 - start
 }
 
-// Writes all packets of a unit's plan, each where its record says that it starts. N is looked for once.
-fn write_packets(mtu: usize, unit: &[u8], obus: &[u32], plan: &[u32], out: &mut [u8])
+// Writes so many packets of a unit's plan, from one on, one after the other. N is looked for once.
+fn put_packets(
+    mtu: usize,
+    unit: &[u8],
+    obus: &[u32],
+    plan: &[u32],
+    first: usize,
+    count: usize,
+    out: &mut [u8],
+)
     requires { ⌜ Lent mtu (now unit) (now obus) (now plan) ⌝ }
-    requires { ⌜ length (joined (payloadsOf mtu (now unit))) ≤ length (now out) ⌝ }
-    ensures { λ _. ⌜ now (out .exit) ≡ sets (now (out .entry)) 0 (joined (payloadsOf mtu (now (unit .entry)))) ⌝ }
+    requires { ⌜ Fits mtu (now unit) first count (now out) ⌝ }
+    ensures { λ _. ⌜ now (out .exit) ≡ sets (now (out .entry)) 0 (joined (take count (drop first (payloadsOf mtu (now (unit .entry)))))) ⌝ }
 {
-    let packets = plan.len() / packetizer::PLAN_NUMBERS;
-    let mut new = aggregation::new_at(unit, obus, 0);
-    let mut k: usize = 0;
-    while k < packets {
-        let p = packetizer::packet_at(plan, k);
-        write_packet(mtu, unit, obus, plan, k, new, out, p.payload_start as usize);
+    let mut new = aggregation::new_at(unit, obus, first);
+    let mut n: usize = 0;
+    let mut at: usize = 0;
+    while n < count {
+        at = put_packet(mtu, unit, obus, plan, first + n, new, out, at);
         new = false;
-        k += 1;
+        n += 1;
     }
 }
 
-// List, plan and payloads of a unit.
-pub fn payload(
+// Writes so many packets of a unit, from one on, one after the other, by its list and plan.
+pub fn write_packets(
     mtu: usize,
     unit: &[u8],
-    obus: &mut [u32],
-    plan: &mut [u32],
+    obus: &[u32],
+    plan: &[u32],
+    first: usize,
+    count: usize,
     out: &mut [u8],
-) -> PayloadAnswer
-    ensures { λ r. ⌜ leaves (paper r) (now (obus .exit)) (now (plan .exit)) (now (out .exit))
-        ≡ writeUnit (toWrite mtu (now (unit .entry)) (now (obus .entry)) (now (plan .entry)) (now (out .entry))) ⌝ }
+) -> WriteAnswer
+    ensures { λ r. ⌜ leaves (paper r) (now (out .exit))
+        ≡ writePackets first count (toWrite mtu (now (unit .entry)) (now (obus .entry)) (now (plan .entry)) (now (out .entry))) ⌝ }
 {
-    match packetizer::plan_unit(mtu, unit, obus, plan) {
-        PlanAnswer::Refused { refusal, at } => PayloadAnswer::Refused {
+    match packetizer::same_plan(mtu, unit, obus, plan) {
+        PlanAnswer::Refused { refusal, at } => WriteAnswer::Refused {
             refusal: refusal,
             at: at,
         },
         PlanAnswer::Planned(planned) => {
+            if beyond(planned.packets, first) < count {
+                return WriteAnswer::Refused {
+                    refusal: Refusal::NoUsablePacket,
+                    at: 0,
+                };
+            }
             let listed = planned.obus * obu::OBU_NUMBERS;
             let recorded = planned.packets * packetizer::PLAN_NUMBERS;
-            let bytes = planned_bytes(&plan[..recorded]);
+            let bytes = run_bytes(&plan[..recorded], first, count);
             if out.len() < bytes {
-                return PayloadAnswer::Refused {
+                return WriteAnswer::Refused {
                     refusal: Refusal::NoRoomForPayloads,
                     at: 0,
                 };
             }
-            write_packets(mtu, unit, &obus[..listed], &plan[..recorded], out);
-            PayloadAnswer::Written(Payloads {
-                obus: planned.obus,
-                packets: planned.packets,
-                bytes: bytes,
-            })
+            put_packets(
+                mtu,
+                unit,
+                &obus[..listed],
+                &plan[..recorded],
+                first,
+                count,
+                out,
+            );
+            WriteAnswer::Written(Written { bytes: bytes })
         }
     }
+}
+
+// Writes packet k of a unit by its list and plan.
+pub fn write_packet(
+    mtu: usize,
+    unit: &[u8],
+    obus: &[u32],
+    plan: &[u32],
+    k: usize,
+    out: &mut [u8],
+) -> WriteAnswer
+    ensures { λ r. ⌜ leaves (paper r) (now (out .exit))
+        ≡ writePacket k (toWrite mtu (now (unit .entry)) (now (obus .entry)) (now (plan .entry)) (now (out .entry))) ⌝ }
+{
+    write_packets(mtu, unit, obus, plan, k, 1, out)
 }

@@ -10,8 +10,6 @@ const OBUS: usize = packing::OBU_LIST_NUMBERS;
 
 const PLAN: usize = packing::PLAN_LIST_NUMBERS;
 
-const OUT: usize = packing::OUTPUT_BYTES;
-
 const WRITTEN: usize = packing::RECORD_BYTES;
 
 const LINE: usize = turns::LINE_BYTES;
@@ -23,15 +21,14 @@ fn next(
     input: &mut [u8; INPUT],
     obus: &mut [u32; OBUS],
     plan: &mut [u32; PLAN],
-    out: &mut [u8; OUT],
     written: &mut [u8; WRITTEN],
     line: &mut [u8; LINE],
 ) -> Turn
-    requires { ⌜ Goes turn (now input) (now plan) (now out) ⌝ }
-    ensures { λ r. ⌜ Goes r (now (input .exit)) (now (plan .exit)) (now (out .exit)) ⌝ }
+    requires { ⌜ Goes turn (now input) (now obus) (now plan) ⌝ }
+    ensures { λ r. ⌜ Goes r (now (input .exit)) (now (obus .exit)) (now (plan .exit)) ⌝ }
 {
     let came = crate::obey(turn.order, streams, input, written, line);
-    packing::step(turn.place, came, input, obus, plan, out, written, line)
+    packing::step(turn.place, came, input, obus, plan, written, line)
 }
 
 // All turns. Nothing says that the input ends, so they are counted down from a number that no run uses up.
@@ -39,7 +36,6 @@ pub fn run(streams: Streams) {
     let mut input = [0u8; INPUT];
     let mut obus = [0u32; OBUS];
     let mut plan = [0u32; PLAN];
-    let mut out = [0u8; OUT];
     let mut written = [0u8; WRITTEN];
     let mut line = [0u8; LINE];
     let mut turn = packing::start();
@@ -51,7 +47,6 @@ pub fn run(streams: Streams) {
             &mut input,
             &mut obus,
             &mut plan,
-            &mut out,
             &mut written,
             &mut line,
         );

@@ -22,8 +22,8 @@ use Rattle.aggregation.specs.Paper as aggregation
 use Rattle.aggregation.specs.declared.HeaderAnswer.{HeaderAnswer}
 use Rattle.aggregation.specs.declared.HeaderAnswer.the-variants as header
 use Rattle.payloader.specs.Paper as payloader
-use Rattle.payloader.specs.declared.PayloadAnswer.{PayloadAnswer}
-use Rattle.payloader.specs.declared.PayloadAnswer.the-variants as payloads
+use Rattle.payloader.specs.declared.WriteAnswer.{WriteAnswer}
+use Rattle.payloader.specs.declared.WriteAnswer.the-variants as writes
 use Rattle.element.specs.Paper as element
 use Rattle.element.specs.declared.ElementRead.{ElementRead}
 use Rattle.element.specs.declared.ElementRead.the-variants as part
@@ -96,7 +96,7 @@ list-one = tells-apart obu.paperList (back list.Listed list.Refused) undone
     undone (list.Listed l) = refl
     undone (list.Refused r at) = ap (λ (q : Refusal). list.Refused q at) (number-names r)
 
--- ---- plan, header, payloads
+-- ---- plan, header, packets written
 
 pub plan-one : (a b : PlanAnswer) → packetizer.paper a ≡ packetizer.paper b → a ≡ b
 plan-one = tells-apart packetizer.paper (back plan.Planned plan.Refused) undone
@@ -116,12 +116,12 @@ header-one = tells-apart aggregation.paper headerBack undone
     undone (header.Header h) = refl
     undone (header.Refused r) = ap header.Refused (number-names r)
 
-pub payloads-one : (a b : PayloadAnswer) → payloader.paper a ≡ payloader.paper b → a ≡ b
-payloads-one = tells-apart payloader.paper (back payloads.Written payloads.Refused) undone
+pub write-one : (a b : WriteAnswer) → payloader.paper a ≡ payloader.paper b → a ≡ b
+write-one = tells-apart payloader.paper (back writes.Written writes.Refused) undone
   where
-    undone : (r : PayloadAnswer) → back payloads.Written payloads.Refused (payloader.paper r) ≡ r
-    undone (payloads.Written p) = refl
-    undone (payloads.Refused r at) = ap (λ (q : Refusal). payloads.Refused q at) (number-names r)
+    undone : (r : WriteAnswer) → back writes.Written writes.Refused (payloader.paper r) ≡ r
+    undone (writes.Written w) = refl
+    undone (writes.Refused r at) = ap (λ (q : Refusal). writes.Refused q at) (number-names r)
 
 -- ---- elements, the receiver
 

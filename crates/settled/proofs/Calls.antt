@@ -15,10 +15,13 @@ use Rattle.aggregation.proofs.Headers.{alike}
 use Rattle.payloader.specs.Call as written
 use Rattle.leb128.proofs.read_leb128 as readLeb128
 use Rattle.obu.proofs.parse_obus as parseObus
+use Rattle.obu.proofs.same_list as sameList
 use Rattle.packetizer.proofs.plan_unit as planUnit
+use Rattle.packetizer.proofs.same_plan as samePlan
 use Rattle.aggregation.proofs.get_aggregation_header as getAggregationHeader
 use Rattle.aggregation.proofs.header_of as headerOf
-use Rattle.payloader.proofs.payload as payload
+use Rattle.payloader.proofs.write_packet as writePacket
+use Rattle.payloader.proofs.write_packets as writePackets
 use Rattle.element.proofs.walk_elements as walkElements
 use Rattle.element.proofs.element as element
 use Rattle.receiver.specs.Call.{After}
@@ -37,7 +40,7 @@ use Rattle.listing.proofs.start as planlistStart
 use Rattle.unpacking.proofs.start as unpackStart
 use Rattle.settled.specs.Settled.{Settled, SettledBy, SamePart}
 use Rattle.settled.proofs.Law.{meet, settles}
-use Rattle.settled.proofs.Answers.{size-one, list-one, plan-one, header-one, payloads-one, walk-one, receipt-one, head-one, stated-one, found-one}
+use Rattle.settled.proofs.Answers.{size-one, list-one, plan-one, header-one, write-one, walk-one, receipt-one, head-one, stated-one, found-one}
 
 pub read-leb128 : Settled readLeb128.ended (λ M. readLeb128.clauses)
 read-leb128 =
@@ -50,12 +53,18 @@ parse-obus =
       λ i. (tt, (meet (p .1) (q .1) i, tt)),
     ))
 
+pub same-list : Settled sameList.ended (λ M. sameList.clauses)
+same-list = settles sameList.ended _ _ _ (λ M 𝓤 H A mem run κs a. refl) (λ κs a x y p q. (list-one _ _ (meet p q), refl))
+
 pub plan-unit : Settled planUnit.ended (λ M. planUnit.clauses)
 plan-unit =
     settles planUnit.ended _ _ _ (λ M 𝓤 H A mem run κs a. refl) (λ κs a x y p q. (
       plan-one _ _ (ap (λ (o : plan.After). o .answer) (meet p q)),
       λ i. (tt, (tt, (ap (λ (o : plan.After). o .obus) (meet p q) i, (ap (λ (o : plan.After). o .plan) (meet p q) i, tt)))),
     ))
+
+pub same-plan : Settled samePlan.ended (λ M. samePlan.clauses)
+same-plan = settles samePlan.ended _ _ _ (λ M 𝓤 H A mem run κs a. refl) (λ κs a x y p q. (plan-one _ _ (meet p q), refl))
 
 pub get-aggregation-header : Settled getAggregationHeader.ended (λ M. getAggregationHeader.clauses)
 get-aggregation-header =
@@ -65,11 +74,18 @@ pub header-of : Settled headerOf.ended (λ M. headerOf.clauses)
 header-of =
     settles headerOf.ended _ _ _ (λ M 𝓤 H A mem run κs a. refl) (λ κs a x y p q. (header-one _ _ (meet p q), refl))
 
-pub payloads : Settled payload.ended (λ M. payload.clauses)
-payloads =
-    settles payload.ended _ _ _ (λ M 𝓤 H A mem run κs a. refl) (λ κs a x y p q. (
-      payloads-one _ _ (ap (λ (o : written.After). o .answer) (meet p q)),
-      λ i. (tt, (tt, (ap (λ (o : written.After). o .obus) (meet p q) i, (ap (λ (o : written.After). o .plan) (meet p q) i, (ap (λ (o : written.After). o .out) (meet p q) i, tt))))),
+pub write-packet : Settled writePacket.ended (λ M. writePacket.clauses)
+write-packet =
+    settles writePacket.ended _ _ _ (λ M 𝓤 H A mem run κs a. refl) (λ κs a x y p q. (
+      write-one _ _ (ap (λ (o : written.After). o .answer) (meet p q)),
+      λ i. (tt, (tt, (tt, (tt, (tt, (ap (λ (o : written.After). o .out) (meet p q) i, tt)))))),
+    ))
+
+pub write-packets : Settled writePackets.ended (λ M. writePackets.clauses)
+write-packets =
+    settles writePackets.ended _ _ _ (λ M 𝓤 H A mem run κs a. refl) (λ κs a x y p q. (
+      write-one _ _ (ap (λ (o : written.After). o .answer) (meet p q)),
+      λ i. (tt, (tt, (tt, (tt, (tt, (tt, (ap (λ (o : written.After). o .out) (meet p q) i, tt))))))),
     ))
 
 -- the header call in its two forms: the same records, the same answer

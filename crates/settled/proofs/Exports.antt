@@ -4,7 +4,8 @@ use Rattle.av1rtp.proofs.av1rtp_size_field as sizeField
 use Rattle.av1rtp.proofs.av1rtp_list as list
 use Rattle.av1rtp.proofs.av1rtp_plan as plan
 use Rattle.av1rtp.proofs.av1rtp_header as header
-use Rattle.av1rtp.proofs.av1rtp_payload as payload
+use Rattle.av1rtp.proofs.av1rtp_write_packet as writePacket
+use Rattle.av1rtp.proofs.av1rtp_write_packets as writePackets
 use Rattle.av1rtp.proofs.av1rtp_element as element
 use Rattle.av1rtp.proofs.av1rtp_receive as receive
 use Rattle.av1rtp.proofs.av1rtp_train_head as trainHead
@@ -41,11 +42,18 @@ header-of =
       λ i. (tt, (tt, (tt, (tt, (meet (p .1) (q .1) i, tt))))),
     ))
 
-pub payloads : Settled payload.ended (λ M. payload.clauses)
-payloads =
-    settles payload.ended _ _ _ (λ M 𝓤 H A mem run κs a. refl) (λ κs a x y p q. (
+pub write-packet : Settled writePacket.ended (λ M. writePacket.clauses)
+write-packet =
+    settles writePacket.ended _ _ _ (λ M 𝓤 H A mem run κs a. refl) (λ κs a x y p q. (
       meet (p .number) (q .number),
-      λ i. (tt, (tt, (meet (p .obus-are) (q .obus-are) i, (meet (p .plan-is) (q .plan-is) i, (meet (p .out-is) (q .out-is) i, (meet (p .words-are) (q .words-are) i, tt)))))),
+      λ i. (tt, (tt, (tt, (tt, (tt, (meet (p .out-is) (q .out-is) i, (meet (p .words-are) (q .words-are) i, tt))))))),
+    ))
+
+pub write-packets : Settled writePackets.ended (λ M. writePackets.clauses)
+write-packets =
+    settles writePackets.ended _ _ _ (λ M 𝓤 H A mem run κs a. refl) (λ κs a x y p q. (
+      meet (p .number) (q .number),
+      λ i. (tt, (tt, (tt, (tt, (tt, (tt, (meet (p .out-is) (q .out-is) i, (meet (p .words-are) (q .words-are) i, tt)))))))),
     ))
 
 pub element-of : Settled element.ended (λ M. element.clauses)

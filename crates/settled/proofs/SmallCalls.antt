@@ -2,6 +2,7 @@
 use mathlib.Core.Path.{refl}
 use Rattle.base.proofs.number as number
 use Rattle.base.proofs.smaller as smaller
+use Rattle.base.proofs.same_numbers as sameNumbers
 use Rattle.leb128.proofs.leb128_size as leb128Size
 use Rattle.obu.proofs.obu_type as obuType
 use Rattle.obu.proofs.obu_has_extension as obuHasExtension
@@ -18,13 +19,16 @@ use Rattle.element.proofs.has_field as hasField
 use Rattle.settled.specs.Settled.{Settled}
 use Rattle.settled.proofs.Law.{meet, settles}
 
--- ---- the number of a refusal, the smaller of two numbers, the bytes of a size field
+-- ---- the number of a refusal, the smaller of two numbers, numbers of a list compared, the bytes of a size field
 
 pub number-of : Settled number.ended (λ M. number.clauses)
 number-of = settles number.ended _ _ _ (λ M 𝓤 H A mem run κs a. refl) (λ κs a x y p q. (meet p q, refl))
 
 pub smaller-of : Settled smaller.ended (λ M. smaller.clauses)
 smaller-of = settles smaller.ended _ _ _ (λ M 𝓤 H A mem run κs a. refl) (λ κs a x y p q. (meet p q, refl))
+
+pub same-numbers : Settled sameNumbers.ended (λ M. sameNumbers.clauses)
+same-numbers = settles sameNumbers.ended _ _ _ (λ M 𝓤 H A mem run κs a. refl) (λ κs a x y p q. (meet p q, refl))
 
 pub leb128-size : Settled leb128Size.ended (λ M. leb128Size.clauses)
 leb128-size = settles leb128Size.ended _ _ _ (λ M 𝓤 H A mem run κs a. refl) (λ κs a x y p q. (meet p q, refl))

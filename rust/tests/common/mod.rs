@@ -37,17 +37,23 @@ pub fn wire(unit: &[u8], obu: &Obu) -> Vec<u8> {
     bytes
 }
 
-/// The answer of the payload call with lists and output that always do.
+/// Payloads, each in a buffer of its own.
+pub fn apart<'a>(payloads: impl IntoIterator<Item = &'a [u8]>) -> Vec<Vec<u8>> {
+    payloads.into_iter().map(<[u8]>::to_vec).collect()
+}
+
+/// The payloads of a unit, with lists and an output that always do.
 pub fn ample(unit: &[u8], mtu: usize) -> Result<Vec<Vec<u8>>, av1rtp::Refusal> {
     let records = unit.len().min(av1rtp::UNIT_LIMIT);
     let mut obus = vec![0; records * lent::OBU_NUMBERS];
     let mut plan = vec![0; records * lent::PLAN_NUMBERS];
     let mut out = vec![0; 5 * records];
-    let written = lent::payload(mtu, unit, &mut obus, &mut plan, &mut out)?;
-    let mut rest = &out[..written.bytes];
+    let packets = lent::plan(mtu, unit, &mut obus, &mut plan)?.packets;
+    let bytes = lent::write_packets(mtu, unit, &obus, &plan, 0, packets, &mut out)?;
+    let mut rest = &out[..bytes];
     let mut payloads = Vec::new();
-    for record in plan.chunks(lent::PLAN_NUMBERS).take(written.packets) {
-        assert_eq!(record[5] as usize, written.bytes - rest.len());
+    for record in plan.chunks(lent::PLAN_NUMBERS).take(packets) {
+        assert_eq!(record[5] as usize, bytes - rest.len());
         let (payload, after) = rest.split_at(record[4] as usize + 1);
         payloads.push(payload.to_vec());
         rest = after;

@@ -13,6 +13,10 @@ use borrow.Author.Needs.{needs}
 use Rattle.packing.proofs.packet_step.Statement.{statement}
 use Rattle.packing.proofs.packet_step.Tie as tie
 
+-- where the function begins, if there is no packet more
+abbrev start : tie.Else1 → tie.Start
+start c = c .before .before .before .before .before .before
+
 record-turn-requires : tie.Need-record-turn-requires
 record-turn-requires c κs = search needs
 
@@ -30,9 +34,10 @@ ask-requires c κs = search needs
 
 returns-2 : tie.Need-returns-2
 returns-2 c =
-    let a = c .before .before .before .before .before .before .before .before .args in
+    let s = start (c .before .before) in
+    let a = s .args in
     let p = next (a .place) in
-    let told = ap (leftTold (a .place) (a .progress)) (left-none (a .place .mtu) (a .unit .now) (a .progress .packet) (omega (arith, c .before .before .if1 .left, c .before .before .before .before .before .before .before .before .pre .0 .packets-is))) in (
+    let told = ap (leftTold (a .place) (a .progress)) (left-none (a .place .mtu) (a .unit .now) (a .progress .packet) (omega (arith, c .before .before .if1 .left, s .pre .0 .packets-is))) in (
       λ line. gives p (c .before .following .ensures) tt (asked p [] 0 unitWidth told (c .before .following .ensures) (c .ask .ensures) refl (omega arith) (omega arith)),
       ap (λ (t : Told Place). front (t .written) (a .written .now)) (sym told),
       ready-as _ _ _ (c .before .following .ensures) tt,

@@ -1,9 +1,11 @@
 use mathlib.Core.Path.{sym, ap, _∙_}
-use Prim.Native.Nat.{ℕ, _+_, _*_, _<_}
+use Prim.Native.Nat.{ℕ, _*_}
 use native.Mathlib.Omega.{arith}
+use lib.ListN.{take}
 use lib.Seq.{length-take-le}
 use Rattle.base.specs.Lists.{front}
 use Rattle.obu.specs.Laws.{Bytes}
+use Rattle.obu.specs.Records.{obuNumbers}
 use Rattle.packetizer.specs.Records.{planNumbers}
 use Rattle.payloader.proofs.Starts.{left-some}
 use Rattle.train.specs.Train.{trainHead}
@@ -20,57 +22,45 @@ use borrow.Author.Needs.{needs}
 use Rattle.packing.proofs.record_turn.Statement.{statement}
 use Rattle.packing.proofs.record_turn.Tie as tie
 
--- ---- the places: the packet's record is read; its payload is put behind a head
+-- ---- the places: the lists are known; the record is put; the next number is known
 
-abbrev start : tie.After-packet-at → tie.Start
+abbrev start : tie.After-struct-known2 → tie.Start
 start c = c .before .before .before .before .before .before
 
-abbrev reading : tie.After-put-record → tie.After-packet-at
-reading c = c .before .before .before .before
+abbrev lists : tie.After-put-record → tie.After-struct-known2
+lists c = c .before .before .before .before
 
 abbrev putting : tie.After-wrapping-add-u16 → tie.After-put-record
 putting c = c .before .before .before
 
 -- the unit has bytes
-unit-bytes : (c : tie.After-packet-at) → Bytes (start c .args .unit .now)
+unit-bytes : (c : tie.After-struct-known2) → Bytes (start c .args .unit .now)
 unit-bytes c i = c .before .before .before .before .before .shared-slice-known .given i .fits
 
--- a packet more can be counted
-few : (c : tie.After-packet-at) → start c .args .progress .packet + 1 < 18446744073709551616
-few c = omega (arith, start c .pre .1 .0)
-
--- there is space for its record
-room : (c : tie.After-packet-at) →
-    Recordable (start c .args .out .now) (c .packet-at .result .«payload_start») (c .packet-at .result .«packet_size» + 1) (trainHead .width) (start c .args .written .now) 0
-room c = ready-room (start c .pre .0) (unit-bytes c) (start c .pre .1 .0) (c .packet-at .ensures) (start c .args .written .now) (start c .pre .1 .1)
+-- its packet is there, and there is space for the record
+room : (c : tie.After-struct-known2) → let a = start c .args in
+    Recordable (a .place .mtu) (a .unit .now) (take (a .progress .obus * obuNumbers) (a .obus .now)) (take (a .progress .packets * planNumbers) (a .plan .now)) (a .progress .packet) (trainHead .width) (a .written .now)
+room c = ready-room (start c .pre .0) (unit-bytes c) (start c .pre .1 .0) (start c .args .written .now) (start c .pre .1 .1)
 
 -- ---- what is left
 
-mul-filled : tie.Need-mul-filled
-mul-filled c = search needs
+mul-listed : tie.Need-mul-listed
+mul-listed c = search needs
 
-slice-aggregate-packet-at : tie.Need-slice-aggregate-packet-at
-slice-aggregate-packet-at c = let s = c .before .before .before .before .before in sym (length-take-le _ (s .args .plan .now) (s .pre .0 .plan-room))
+mul-recorded : tie.Need-mul-recorded
+mul-recorded c = search needs
 
-packet-at-requires : tie.Need-packet-at-requires
-packet-at-requires c κs =
-    let s = c .before .before .before .before .before in
-    omega (arith, length-take-le (s .args .progress .packets * planNumbers) (s .args .plan .now) (s .pre .0 .plan-room), s .pre .1 .0)
+slice-aggregate-put-record : tie.Need-slice-aggregate-put-record
+slice-aggregate-put-record c = let s = start (c .before) in sym (length-take-le _ (s .args .obus .now) (s .pre .0 .obus-room))
 
-cast-from : tie.Need-cast-from
-cast-from c = search needs
-
-cast-size : tie.Need-cast-size
-cast-size c = search needs
-
-add-size : tie.Need-add-size
-add-size c = search needs
+slice-aggregate-put-record-2 : tie.Need-slice-aggregate-put-record-2
+slice-aggregate-put-record-2 c = let s = start (c .before .before) in sym (length-take-le _ (s .args .plan .now) (s .pre .0 .plan-room))
 
 put-record-requires : tie.Need-put-record-requires
 put-record-requires c κs = room (c .before .before .before)
 
 add-t18 : tie.Need-add-t18
-add-t18 c = omega (arith, few (reading (c .before .before)))
+add-t18 c = search needs
 
 wrapping-add-u16-requires : tie.Need-wrapping-add-u16-requires
 wrapping-add-u16-requires c κs = search needs
@@ -84,14 +74,14 @@ same-length c = search needs
 returns : tie.Need-returns
 returns c =
     let q = putting (c .before) in
-    let s = reading q in
+    let s = lists q in
     let a = start s .args in
     let r = start s .pre .0 in
     let at : ℕ → Place = λ (n : ℕ). record { wait = wait.Packets (after (a .progress)); count = a .place .count; mtu = a .place .mtu; number = n } in
     let p : Place = at (nextNumber (a .place .number)) in
     let there = ap {B = Place} at (c .before .wrapping-add-u16 .ensures) in
     let told = ap (leftTold (a .place) (a .progress)) (left-some (a .place .mtu) (a .unit .now) (a .progress .packet) (omega (arith, r .packets-is, start s .pre .1 .0))) in
-    let put = record-is r (unit-bytes s) (start s .pre .1 .0) (s .packet-at .ensures) (a .place .number) _ _ _ (start s .pre .1 .1) (q .put-record .ensures) in (
+    let put = record-is r (unit-bytes s) (start s .pre .1 .0) (a .place .number) _ _ _ (start s .pre .1 .1) (q .put-record .ensures) in (
       λ line. gives p there (ap (λ (o : Order). o .read) (c .ask .ensures)) (asked p _ _ 0 told there (c .ask .ensures) (put .0) (put .1) (omega arith)),
       put .2 ∙ ap (λ (t : Told Place). front (t .written) (a .written .now)) (sym told),
       ready-whole (ready-next r),
@@ -101,12 +91,10 @@ pub record-turn-spec : {M : Type 1} → statement M
 record-turn-spec =
     tie.close
     (tie.spec
-    mul-filled
-    slice-aggregate-packet-at
-    packet-at-requires
-    cast-from
-    cast-size
-    add-size
+    mul-listed
+    mul-recorded
+    slice-aggregate-put-record
+    slice-aggregate-put-record-2
     put-record-requires
     add-t18
     wrapping-add-u16-requires

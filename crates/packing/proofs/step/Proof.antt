@@ -8,14 +8,24 @@ use Rattle.turns.proofs.Turning.{ended}
 use Rattle.packing.specs.declared.Wait.the-variants as wait
 use Rattle.packing.specs.Pack.{headIn, lengthIn}
 use Rattle.packing.specs.Steps.{awaits, stepIn, Ready}
-use Rattle.packing.proofs.Turning.{gives, gives-as, ready-as, ready-at, ready-given, head-ready, length-ready, ready-wider, length-quiet, unit-quiet, stepped}
+use Rattle.packing.proofs.Turning.{gives, gives-as, ready-as, unit-at, ready-at, ready-given, head-ready, length-ready, ready-wider, length-quiet, unit-quiet, stepped}
 use borrow.Author.Needs.{needs}
 use Rattle.packing.proofs.step.Statement.{statement}
 use Rattle.packing.proofs.step.Tie as tie
 
--- from one place of the code back to another
-abbrev start-of-came : tie.After-came → tie.Start
-start-of-came c = c .before .before .before .before .before .before .before .before
+-- ---- the places: all is lent; what came is bytes; a unit is waited for, or packets
+
+abbrev start : tie.After-slice-known4 → tie.Start
+start c = c .before .before .before .before .before
+
+abbrev came : tie.After-came → tie.Start
+came c = start (c .before .before)
+
+abbrev unit-came : tie.After-wait → tie.After-came
+unit-came c = c .before .before .before
+
+abbrev packets-came : tie.After-wait2 → tie.After-came
+packets-came c = c .before .before .before
 
 enum-told : tie.Need-enum-told
 enum-told c = search needs
@@ -44,7 +54,7 @@ enum-told-3 c = search needs
 slice-aggregate-head-step : tie.Need-slice-aggregate-head-step
 slice-aggregate-head-step c =
     let at-came = c .before .before .before .before in
-    let at-start = start-of-came at-came in
+    let at-start = came at-came in
     came-part (at-start .args .input .now) (at-came .came .given .1) (at-start .pre .came-within) (at-start .pre .input-is)
 
 head-step-requires : tie.Need-head-step-requires
@@ -56,7 +66,7 @@ enum-told-4 c = search needs
 slice-aggregate-length-step : tie.Need-slice-aggregate-length-step
 slice-aggregate-length-step c =
     let at-came = c .before .before .before .before in
-    let at-start = start-of-came at-came in
+    let at-start = came at-came in
     came-part (at-start .args .input .now) (at-came .came .given .1) (at-start .pre .came-within) (at-start .pre .input-is)
 
 length-step-requires : tie.Need-length-step-requires
@@ -68,28 +78,28 @@ enum-known-wait c = search needs
 slice-aggregate-unit-step : tie.Need-slice-aggregate-unit-step
 slice-aggregate-unit-step c =
     let at-came = c .before .before .before .before .before in
-    let at-start = start-of-came at-came in
+    let at-start = came at-came in
     came-part (at-start .args .input .now) (at-came .came .given .1) (at-start .pre .came-within) (at-start .pre .input-is)
 
 unit-step-requires : tie.Need-unit-step-requires
 unit-step-requires c κs =
-    let at-wait = c .before .before .before .before .before .before in
-    let at-start = at-wait .before .before .before .before .before .before .before .before .before .before .before in
-    (rw (at-wait .wait .given .1) at (at-start .pre .ready), at-start .pre .obus-is, at-start .pre .plan-is, at-start .pre .out-is, at-start .pre .line-is)
+    let at-wait = c .before .before .before .before .before in
+    let at-start = came (unit-came at-wait) in
+    (unit-at _ _ _ _ (at-wait .wait .given .1) (at-start .pre .ready), at-start .pre .obus-is, at-start .pre .plan-is, at-start .pre .line-is)
 
 enum-known-wait-2 : tie.Need-enum-known-wait-2
 enum-known-wait-2 c = search needs
 
 slice-aggregate-packet-step : tie.Need-slice-aggregate-packet-step
 slice-aggregate-packet-step c =
-    let at-start = c .before .before .before .before .before .before .before .before .before .before .before .before .before in
-    let r : Ready (at-start .args .place .mtu) (c .before .before .wait2 .given .0 .0) (take ((c .before .before .wait2 .given .0 .0) .unit) (at-start .args .input .now)) (at-start .args .plan .now) (at-start .args .out .now) = ready-at _ _ _ _ (c .before .before .wait2 .given .1) (at-start .pre .ready) in
+    let at-start = came (packets-came (c .before .before)) in
+    let r : Ready (at-start .args .place .mtu) (c .before .before .wait2 .given .0 .0) (take ((c .before .before .wait2 .given .0 .0) .unit) (at-start .args .input .now)) (at-start .args .obus .now) (at-start .args .plan .now) = ready-at _ _ _ _ (c .before .before .wait2 .given .1) (at-start .pre .ready) in
     sym (r .unit-is)
 
 packet-step-requires : tie.Need-packet-step-requires
 packet-step-requires c κs =
     let at-wait2 = c .before .before .before .before .before in
-    let at-start = at-wait2 .before .before .before .before .before .before .before .before .before .before .before in
+    let at-start = came (packets-came at-wait2) in
     (ready-at _ _ _ _ (at-wait2 .wait2 .given .1) (at-start .pre .ready), at-start .pre .written-is)
 
 enum-told-5 : tie.Need-enum-told-5
@@ -105,7 +115,7 @@ returns : tie.Need-returns
 returns c =
     let at-read-subject = c .before .before .before .before in
     let at-enum-told = at-read-subject .before in
-    let at-start = at-enum-told .before .before .before .before .before .before .before .before in
+    let at-start = start (at-enum-told .before .before) in
     rw (at-enum-told .enum-told .given .1)
     (gives-as (ap (λ (s : Subject). says (awaits (at-start .args .place) wait.Nothing) s word.ReadFailed 0) (sym (at-read-subject .read-subject .ensures))) (c .before .before .say .ensures), refl, ready-as _ _ _ (c .before .before .say .ensures .turned .0 .place-is) tt)
 
@@ -116,7 +126,7 @@ returns-2 : tie.Need-returns-2
 returns-2 c =
     let at-written-subject = c .before .before .before .before in
     let at-enum-told2 = at-written-subject .before in
-    let at-start = at-enum-told2 .before .before .before .before .before .before .before .before in
+    let at-start = start (at-enum-told2 .before .before) in
     rw (at-enum-told2 .enum-told2 .given .1)
     (gives-as (ap (λ (s : Subject). says (awaits (at-start .args .place) wait.Nothing) s word.WriteFailed 0) (sym (at-written-subject .written-subject .ensures))) (c .before .before .say2 .ensures), refl, ready-as _ _ _ (c .before .before .say2 .ensures .turned .0 .place-is) tt)
 
@@ -131,7 +141,7 @@ returns-3 c =
     let at-head-step = c .before .before .before .before in
     let at-enum-told3 = at-head-step .before .before .before .before in
     let at-came = at-enum-told3 .before .before .before in
-    let at-start = start-of-came at-came in
+    let at-start = came at-came in
     let a = at-start .args in
     stepped (a .place) (a .came) _ wait.Head (a .input .now) _ _ (a .written .now) (at-came .came .given .1) (at-enum-told3 .enum-told3 .given .1)
     (at-head-step .head-step .ensures .0)
@@ -145,7 +155,7 @@ returns-4 : tie.Need-returns-4
 returns-4 c =
     let at-enum-told4 = c .before .before .before .before .before in
     let at-came = at-enum-told4 .before .before .before in
-    let at-start = start-of-came at-came in
+    let at-start = came at-came in
     let a = at-start .args in
     stepped (a .place) (a .came) _ wait.Length (a .input .now) _ _ (a .written .now) (at-came .came .given .1) (at-enum-told4 .enum-told4 .given .1)
     (c .before .before .length-step .ensures)
@@ -161,20 +171,20 @@ same-length-7 c = search needs
 same-length-8 : tie.Need-same-length-8
 same-length-8 c = search needs
 
-same-length-9 : tie.Need-same-length-9
-same-length-9 c = search needs
-
 returns-5 : tie.Need-returns-5
 returns-5 c =
-    let at-unit-step = c .before .before .before .before .before .before .before .before in
-    let at-wait = at-unit-step .before .before .before .before .before .before .before in
-    let at-came = at-wait .before .before .before in
-    let at-start = start-of-came at-came in
+    let at-unit-step = c .before .before .before .before .before .before in
+    let at-wait = at-unit-step .before .before .before .before .before .before in
+    let at-came = unit-came at-wait in
+    let at-start = came at-came in
     let a = at-start .args in
     stepped (a .place) (a .came) _ (wait.Unit _) (a .input .now) _ _ (a .written .now) (at-came .came .given .1) (at-wait .wait .given .1)
     (at-unit-step .unit-step .ensures .0)
     (unit-quiet (a .place) _ (stepIn (a .place .mtu) (at-wait .wait .given .0 .0) (take (at-came .came .given .0 .0) (a .input .now))) (a .written .now))
     (ready-wider (at-unit-step .unit-step .result .place .wait) (at-unit-step .unit-step .result .place .mtu) (at-came .came .given .0 .0) (a .input .now) _ _ (at-unit-step .unit-step .ensures .1))
+
+same-length-9 : tie.Need-same-length-9
+same-length-9 c = search needs
 
 same-length-10 : tie.Need-same-length-10
 same-length-10 c = search needs
@@ -182,14 +192,11 @@ same-length-10 c = search needs
 same-length-11 : tie.Need-same-length-11
 same-length-11 c = search needs
 
-same-length-12 : tie.Need-same-length-12
-same-length-12 c = search needs
-
 returns-6 : tie.Need-returns-6
 returns-6 c =
     let at-wait2 = c .before .before .before .before .before .before .before .before in
-    let at-came = at-wait2 .before .before .before in
-    let at-start = start-of-came at-came in
+    let at-came = packets-came at-wait2 in
+    let at-start = came at-came in
     let a = at-start .args in
     stepped (a .place) (a .came) _ (wait.Packets _) (a .input .now) _ _ (a .written .now) (at-came .came .given .1) (at-wait2 .wait2 .given .1)
     (c .before .before .packet-step .ensures .0 _)
@@ -199,7 +206,7 @@ returns-6 c =
 returns-7 : tie.Need-returns-7
 returns-7 c =
     let at-came = c .before .before .before .before in
-    let at-start = start-of-came at-came in
+    let at-start = came at-came in
     let a = at-start .args in
     stepped (a .place) (a .came) _ wait.Nothing (a .input .now) _ _ (a .written .now) (at-came .came .given .1) (c .before .enum-told5 .given .1)
     (gives (a .place) refl (rw (c .before .enum-told5 .given .1) tt) (ended (a .place) refl refl (c .over .ensures)))
@@ -243,10 +250,9 @@ step-spec =
     same-length-6
     same-length-7
     same-length-8
-    same-length-9
     returns-5
+    same-length-9
     same-length-10
     same-length-11
-    same-length-12
     returns-6
     returns-7)

@@ -1,141 +1,179 @@
-use mathlib.Core.Path.{_≡_, ap, _∙_}
-use Prim.Native.Nat.{ℕ, _+_, _-_, _*_, _<_}
+use mathlib.Core.Path.{_≡_, sym, ap, ap₂, _∙_}
+use Prim.Native.Nat.{ℕ, _-_, _*_, _≤_}
 use native.Mathlib.Omega.{arith}
 use borrow.Author.Needs.{needs}
-use borrow.Author.Tests.{ne-eqb}
-use mathlib.Core.Bool.{_&&_}
-use lib.Dec.{eqb}
+use borrow.Author.Tests.{le-leb, lt-leb}
+use mathlib.Core.Bool.{true}
 use mathlib.Core.List.{List}
-use lib.ListN.{length, getD}
-use Rattle.obu.specs.Records.{obusIn}
-use Rattle.obu.specs.Unit.{obusOf}
+use lib.ListN.{length, take, drop}
+use lib.Seq.{length-take-le}
+use lib.Dec.{leb}
+use Rattle.base.specs.Answers.{given}
 use Rattle.obu.specs.Laws.{Bytes}
-use Rattle.obu.specs.declared.Obu.{Obu}
-use Rattle.obu.proofs.Records.{unit-flat}
-use Rattle.packetizer.specs.Call.{unitPlan}
-use Rattle.packetizer.specs.Records.{planNumbers, packetsIn, noPacket}
+use Rattle.packetizer.specs.Records.{planNumbers, packetsIn}
+use Rattle.packetizer.specs.Call.{sizesOf, unitPlan}
+use Rattle.packetizer.specs.Laws.{plannedBytes}
+use Rattle.packetizer.specs.Paper.{paper}
 use Rattle.packetizer.specs.declared.PacketMetadata.{PacketMetadata}
-use Rattle.packetizer.proofs.Records.{plan-length, packets-flat}
-use Rattle.aggregation.specs.New.{newSequence}
-use Rattle.aggregation.specs.Header.{anyOutside}
-use Rattle.payloader.specs.Payload.{startAt}
-use Rattle.payloader.proofs.Packets.{none-outside}
-use Rattle.payloader.proofs.Totals.{Sending, sending-first, sending-room, sending-next, sending-last}
+use Rattle.packetizer.specs.declared.Planned.{Planned}
+use Rattle.packetizer.proofs.Records.{packets-flat}
+use Rattle.packetizer.proofs.Starts.{plan-abuts}
+use Rattle.packetizer.proofs.Same.{Same, same-means}
+use Rattle.payloader.specs.Call.{Inputs, toWrite}
+use Rattle.payloader.proofs.Runs.{run, run-length}
+use Rattle.payloader.proofs.Calls.{compares, outcome-refused, outcome-11, outcome-10, outcome-written}
 use Rattle.payloader.proofs.write_packets.Statement.{statement}
 use Rattle.payloader.proofs.write_packets.Tie as tie
 
-abbrev Inv-loop : tie.InvT-loop
-Inv-loop mtu unit obus plan out₀ packets new₀ k₀ out new k =
-    Sending mtu unit out₀ out k × (new ≡ (eqb k 0 && newSequence unit (obusOf unit)))
+-- ---- the places: the lists are compared, and are right; or refused; the packets are there; their bytes are counted; they fit; are written
 
-abbrev μ-loop : tie.MeasureT-loop
-μ-loop mtu unit obus plan out₀ packets new₀ k₀ out new k = packets - k
+abbrev start : tie.After-same-plan → tie.Start
+start c = c .before .before .before .before .before
 
--- ---- the places: the loop begins; a turn of it: its record is read, its packet is written
+abbrev comparing : tie.After-known-told2 → tie.After-same-plan
+comparing c = c .before .before .before
 
-abbrev start : tie.At-loop Inv-loop μ-loop → tie.Start Inv-loop μ-loop
-start c = c .before .before .before .before .before .before
+abbrev refusing : tie.After-known-told → tie.After-same-plan
+refusing c = c .before .before .before
 
-abbrev turn : tie.After-packet-at Inv-loop μ-loop → tie.In-loop Inv-loop μ-loop
-turn c = c .before
+abbrev right : tie.After-beyond → tie.After-known-told2
+right c = c .before
 
-abbrev reading : tie.After-struct-known Inv-loop μ-loop → tie.After-packet-at Inv-loop μ-loop
-reading c = c .before .before
+abbrev there : tie.After-struct-known2 → tie.After-beyond
+there c = c .before .before .before
 
-abbrev writing : tie.After-slice-known2 Inv-loop μ-loop → tie.After-write-packet Inv-loop μ-loop
+abbrev counting : tie.After-run-bytes → tie.After-struct-known2
+counting c = c .before .before
+
+abbrev fitting : tie.After-put-packets-arg → tie.After-run-bytes
+fitting c = c .before .before
+
+abbrev writing : tie.After-slice-known2 → tie.After-put-packets
 writing c = c .before .before
 
-abbrev mtu : tie.At-loop Inv-loop μ-loop → ℕ
-mtu c = start c .args .mtu
+abbrev written : tie.After-slice-known2 → tie.After-put-packets-arg
+written c = writing c .before .before .before
 
-abbrev unit : tie.At-loop Inv-loop μ-loop → List ℕ
-unit c = start c .args .unit .now
+-- ---- what is known where the lists are right
 
-bytes : (c : tie.At-loop Inv-loop μ-loop) → Bytes (unit c)
-bytes c i = c .before .before .before .before .before .shared-slice-known .given i .fits
+abbrev input : tie.After-same-plan → Inputs
+input c = let a = start c .args in toWrite (a .mtu) (a .unit .now) (a .obus .now) (a .plan .now) (a .out .now)
 
--- how many numbers there are, and where the packet starts
-count : (c : tie.At-loop Inv-loop μ-loop) → length (start c .args .plan .now) ≡ length (unitPlan (mtu c) (unit c)) * planNumbers
-count c = ap length (start c .pre .0 .plan-is) ∙ plan-length (unitPlan (mtu c) (unit c))
+bytes : (c : tie.After-same-plan) → Bytes (input c .unit)
+bytes c i = c .before .before .before .before .shared-slice-known .given i .fits
 
-inside : (c : tie.In-loop Inv-loop μ-loop) → c .before .loop .k < length (unitPlan (mtu (c .before)) (unit (c .before)))
-inside c = omega (arith, count (c .before), c .loop-test .taken)
+abbrev found : tie.After-known-told2 → Planned
+found c = c .before .planned .given .0 .0
 
-begins : (c : tie.After-packet-at Inv-loop μ-loop) → c .packet-at .result .«payload_start» ≡ startAt (mtu (turn c .before)) (unit (turn c .before)) (turn c .before .loop .k)
-begins c =
-    let l = turn c .before in
-    ap (λ (p : PacketMetadata). p .«payload_start») (
-    c .packet-at .ensures
-    ∙ ap (λ (n : List ℕ). getD (packetsIn n) (l .loop .k) noPacket) (start l .pre .0 .plan-is)
-    ∙ ap (λ (ps : List PacketMetadata). getD ps (l .loop .k) noPacket) (packets-flat (unitPlan (mtu l) (unit l)))
-    )
+told : (c : tie.After-known-told2) → given (found c) ≡ compares (input (comparing c))
+told c = sym (ap paper (c .before .planned .given .1)) ∙ comparing c .same-plan .ensures
 
--- the OBUs are the unit's
-are-obus : (c : tie.Start Inv-loop μ-loop) → Bytes (c .args .unit .now) → obusIn (c .args .obus .now) ≡ obusOf (c .args .unit .now)
-are-obus c q = ap obusIn (c .pre .0 .obus-is) ∙ unit-flat (c .args .unit .now) q
+known : (c : tie.After-known-told2) → Same (input (comparing c) .mtu) (input (comparing c) .unit) (input (comparing c) .obus) (input (comparing c) .plan) (found c)
+known c = same-means (told c)
 
-new-at-requires : tie.Need-new-at-requires Inv-loop μ-loop
-new-at-requires c κs =
-    let s = c .before .before .before .before in
-    ap (anyOutside (s .args .unit .now)) (are-obus s (λ i. c .before .before .before .shared-slice-known .given i .fits)) ∙ none-outside (s .args .unit .now)
+-- the packets that are asked for: none is missing
+abbrev asked : tie.After-known-told2 → List ℕ
+asked c = let i = input (comparing c) in let a = start (comparing c) .args in run (i .mtu) (i .unit) (a .first) (a .count)
 
-loop-holds : tie.Need-loop-holds Inv-loop μ-loop
-loop-holds c =
-    let s = c .before .before .before .before .before in (
-      sending-first,
-      c .new-at .ensures
-          ∙ ap (λ (os : List Obu). newSequence (s .args .unit .now) os) (are-obus s (λ i. c .before .before .before .before .shared-slice-known .given i .fits)),
-    )
+enough : (c : tie.After-struct-known) → start (comparing (right (c .before .before))) .args .count ≤ found (right (c .before .before)) .packets - start (comparing (right (c .before .before))) .args .first
+enough c = omega (arith, c .before .before .beyond .ensures, c .before .if1 .left)
 
-packet-at-requires : tie.Need-packet-at-requires Inv-loop μ-loop
-packet-at-requires c κs = search needs
+are-packets : (c : tie.After-known-told2) → packetsIn (take (found c .packets * planNumbers) (input (comparing c) .plan)) ≡ unitPlan (input (comparing c) .mtu) (input (comparing c) .unit)
+are-packets c = ap packetsIn (known c .plan-same) ∙ packets-flat (unitPlan (input (comparing c) .mtu) (input (comparing c) .unit))
 
-cast-write-packet : tie.Need-cast-write-packet Inv-loop μ-loop
-cast-write-packet c = search needs
+bytes-are : (c : tie.After-run-bytes) → c .run-bytes .result ≡ length (asked (right (there (counting c))))
+bytes-are c =
+    let r = right (there (counting c)) in
+    let i = input (comparing r) in
+    let a = start (comparing r) .args in
+    c .run-bytes .ensures
+    ∙ ap (λ (ps : List PacketMetadata). plannedBytes (take (a .count) (drop (a .first) ps))) (are-packets r)
+    ∙ sym (run-length (i .mtu) (i .unit) (known r .unit-within) (bytes (comparing r)) (a .count) (a .first) (omega (arith, enough (counting c .before), known r .plan-count)))
 
-write-packet-requires : tie.Need-write-packet-requires Inv-loop μ-loop
-write-packet-requires c κs =
-    let t = turn (reading c) in
-    let l = t .before in
-    let s = start l .pre in
-    (s .0, record { there = inside t; new-is = l .loop .inv .1; room = rw (begins (reading c)) (sending-room (l .loop .inv .0) (inside t) (s .1)) })
+none-missing : (c : tie.After-run-bytes) → leb (start (comparing (right (there (counting c)))) .args .count) (found (right (there (counting c))) .packets - start (comparing (right (there (counting c)))) .args .first) ≡ true
+none-missing c = le-leb _ _ (enough (counting c .before))
 
-add-k : tie.Need-add-k Inv-loop μ-loop
-add-k c = omega (arith, turn (reading (writing c .before)) .loop-test .taken)
+same-plan-requires : tie.Need-same-plan-requires
+same-plan-requires c κs = search needs
 
-loop-less : tie.Need-loop-less Inv-loop μ-loop
-loop-less c = omega (arith, turn (reading (writing c .before)) .loop-test .taken)
+enum-known-refusal : tie.Need-enum-known-refusal
+enum-known-refusal c = search needs
 
-loop-again : tie.Need-loop-again Inv-loop μ-loop
-loop-again c =
-    let r = reading (writing c .before) in
-    let t = turn r in
-    let l = t .before in (
-      sending-next (l .loop .inv .0) (inside t) (start l .pre .0 .small) (bytes l) (begins r) (writing c .write-packet .ensures .1),
-      rw (ne-eqb (l .loop .k + 1) 0 (λ e. omega arith)),
-    )
+enum-known-planned : tie.Need-enum-known-planned
+enum-known-planned c = search needs
 
-same-length : tie.Need-same-length Inv-loop μ-loop
-same-length c = c .before .loop .inv .0 .storing .same
+beyond-requires : tie.Need-beyond-requires
+beyond-requires c κs = search needs
 
-returns : tie.Need-returns Inv-loop μ-loop
+returns : tie.Need-returns
 returns c =
-    let l = c .before in
-    sending-last (l .loop .inv .0) (omega (arith, count l, c .loop-test .left))
+    let r = right (c .before) in
+    let a = start (comparing r) .args in
+    outcome-11 _ _ (input (comparing r)) (found r) (told r) (lt-leb (a .count) (found r .packets - a .first) (omega (arith, c .before .beyond .ensures, c .if1 .taken)))
+
+mul-listed : tie.Need-mul-listed
+mul-listed c = omega (arith, known (right (c .before .before)) .obus-long)
+
+mul-recorded : tie.Need-mul-recorded
+mul-recorded c = omega (arith, known (right (there c)) .plan-long)
+
+slice-aggregate-run-bytes : tie.Need-slice-aggregate-run-bytes
+slice-aggregate-run-bytes c = sym (length-take-le _ _ (known (right (there (c .before))) .plan-long))
+
+run-bytes-requires : tie.Need-run-bytes-requires
+run-bytes-requires c κs =
+    let r = right (there (c .before)) in
+    let i = input (comparing r) in
+    rw (are-packets r) (record { there = omega (arith, enough (c .before .before), known r .plan-count); abut = plan-abuts (i .mtu) (sizesOf (i .unit)) })
+
+returns-2 : tie.Need-returns-2
+returns-2 c =
+    let r = right (there (counting (c .before))) in
+    outcome-10 _ _ (input (comparing r)) (found r) (told r) (none-missing (c .before)) _ (bytes-are (c .before)) (c .if2 .taken)
+
+slice-aggregate-put-packets : tie.Need-slice-aggregate-put-packets
+slice-aggregate-put-packets c = sym (length-take-le _ _ (known (right (there (counting (fitting c)))) .obus-long))
+
+slice-aggregate-put-packets-2 : tie.Need-slice-aggregate-put-packets-2
+slice-aggregate-put-packets-2 c = sym (length-take-le _ _ (known (right (there (counting (fitting (c .before))))) .plan-long))
+
+put-packets-requires : tie.Need-put-packets-requires
+put-packets-requires c κs =
+    let f = fitting (c .before .before) in
+    let r = right (there (counting f)) in (
+      record { small = known r .unit-within; obus-is = known r .obus-same; plan-is = known r .plan-same },
+      record { there = omega (arith, enough (counting f .before), known r .plan-count); room = rw (bytes-are f) at (c .before .before .before .if2 .left) },
+    )
+
+returns-3 : tie.Need-returns-3
+returns-3 c = outcome-refused _ _ (input (refusing c)) _ _ (sym (ap paper (c .before .refusal .given .1)) ∙ refusing c .same-plan .ensures)
+
+same-length : tie.Need-same-length
+same-length c = search needs
+
+returns-4 : tie.Need-returns-4
+returns-4 c =
+    let f = fitting (written c) in
+    let r = right (there (counting f)) in
+    outcome-written _ _ (input (comparing r)) (found r) (told r) (none-missing f) _ (bytes-are f) (written c .before .if2 .left) (writing c .put-packets .ensures)
 
 pub write-packets-spec : {M : Type 1} → statement M
 write-packets-spec =
     tie.close
     (tie.spec
-    Inv-loop
-    μ-loop
-    new-at-requires
-    loop-holds
-    packet-at-requires
-    cast-write-packet
-    write-packet-requires
-    add-k
-    loop-less
-    loop-again
+    same-plan-requires
+    enum-known-refusal
+    enum-known-planned
+    beyond-requires
+    returns
+    mul-listed
+    mul-recorded
+    slice-aggregate-run-bytes
+    run-bytes-requires
+    returns-2
+    slice-aggregate-put-packets
+    slice-aggregate-put-packets-2
+    put-packets-requires
+    returns-3
     same-length
-    returns)
+    returns-4)

@@ -12,8 +12,8 @@ abbrev μ-loop : tie.MeasureT-loop
 loop-holds : tie.Need-loop-holds Inv-loop μ-loop
 loop-holds c = search needs
 
-print-between-requires : tie.Need-print-between-requires Inv-loop μ-loop
-print-between-requires c κs = search needs
+between-requires : tie.Need-between-requires Inv-loop μ-loop
+between-requires c κs = search needs
 
 print-header-requires : tie.Need-print-header-requires Inv-loop μ-loop
 print-header-requires c κs = search needs
@@ -37,7 +37,7 @@ print-headers-spec =
     Inv-loop
     μ-loop
     loop-holds
-    print-between-requires
+    between-requires
     print-header-requires
     add-k
     loop-less

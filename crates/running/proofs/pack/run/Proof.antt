@@ -5,10 +5,10 @@ use Rattle.running.proofs.pack.run.Statement.{statement}
 use Rattle.running.proofs.pack.run.Tie as tie
 
 abbrev Inv-loop : tie.InvT-loop
-Inv-loop streams input₀ obus₀ plan₀ out₀ written₀ line₀ turn₀ left₀ input obus plan out written line turn left = Goes turn input plan out
+Inv-loop streams input₀ obus₀ plan₀ written₀ line₀ turn₀ left₀ input obus plan written line turn left = Goes turn input obus plan
 
 abbrev μ-loop : tie.MeasureT-loop
-μ-loop streams input₀ obus₀ plan₀ out₀ written₀ line₀ turn₀ left₀ input obus plan out written line turn left = left
+μ-loop streams input₀ obus₀ plan₀ written₀ line₀ turn₀ left₀ input obus plan written line turn left = left
 
 start-requires : tie.Need-start-requires Inv-loop μ-loop
 start-requires c κs = search needs
