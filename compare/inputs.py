@@ -7,28 +7,29 @@ KEY = bytes.fromhex("0A 01 00 32 01 10")        # one that begins a sequence, so
 
 
 def pack_input(mtu, first, *units, version=1):
-    """G2. An input of `pack`."""
-    return bytes([version]) + mtu.to_bytes(2, "big") + first.to_bytes(2, "big") + b"".join(
+    """G2. An input of `pack`; one of no known version has a head as version 1."""
+    return bytes([version]) + mtu.to_bytes(rules.MTU_BYTES.get(version, 2), "big") + first.to_bytes(2, "big") + b"".join(
         len(unit).to_bytes(4, "big") + unit for unit in units)
 
 
 def train(*records, version=1):
-    """T1, T2. A train of (number, payload)."""
-    return bytes([version]) + b"".join(rules.train_record(number % 65_536, data) for number, data in records)
+    """T1, T2. A train of (number, payload); one of no known version has records as version 1."""
+    known = version if version in rules.WIDTHS else 1
+    return bytes([version]) + b"".join(rules.train_record(number % 65_536, data, known) for number, data in records)
 
 
 def listed(mtu, unit, length=None, version=1):
-    """G8. An input of `planlist`; `length` is what the head states, where that is not the unit's."""
+    """G8. An input of `planlist`; `length` is what the head states, where that is not the unit's. The mtu has 16 bits in any version."""
     length = len(unit) if length is None else length
     return bytes([version]) + mtu.to_bytes(2, "big") + length.to_bytes(4, "big") + unit
 
 
 def planlist_inputs():
-    """G8 to G11, by name: 76 inputs of `planlist`; none is cut."""
+    """G8 to G11, by name: 77 inputs of `planlist`; none is cut."""
     whole = listed(5, SMALL)
     found = {"unit.plan": whole}
     for k, (text, mtu, _) in enumerate(rules.UNIT_ROWS):            # the units worked through, U1 to U18 and more
-        row = listed(mtu, bytes.fromhex(text))
+        row = listed(mtu, bytes.fromhex(text)) if mtu < 65_536 else whole      # the mtu has 16 bits
         if row != whole:
             found["row_%d.plan" % k] = row
     # bytes left over; other versions; lengths that are not the unit's, some with a high byte set
@@ -36,6 +37,7 @@ def planlist_inputs():
     found["surplus_5.plan"] = whole + SMALL
     for version, name in ((0, "version_0"), (2, "version"), (255, "version_255")):
         found[name + ".plan"] = listed(5, SMALL, version=version)
+    found["version_long.plan"] = b"\x02\0\0" + whole[1:]                   # as version 2 of the input of `pack`, with 32 bits
     for length in (0, 1, 4, 6, 0x0500, 0x050000, 0x05000000, 0x01000005, 0x00010005, 0xFFFFFFFF):
         found["length_%08x.plan" % length] = listed(5, SMALL, length)
     # L12: a unit that fills the store, one byte less, one byte more, and one byte more stated

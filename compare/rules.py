@@ -13,17 +13,21 @@ from collections import namedtuple
 from itertools import count as counted
 
 UNIT_LIMIT = 1_048_576          # L1, bytes of a unit
-MTU_LIMIT = 65_533              # L2
-PAYLOAD_LIMIT = 65_533          # L3, bytes of a payload that the receiver takes
+MTU_LIMIT = 1_048_576           # L2
+PAYLOAD_LIMIT = 1_048_576       # L3, bytes of a payload that the receiver takes
 FRAGMENT_LIMIT = 1_048_576      # L4, bytes of an open fragment
 FIELD_BYTES = 8                 # L5, bytes of a size field
 FIELD_VALUE = 4_294_967_295     # L6, value of a size field
 STORE_BYTES = 32_768            # L12 and L15, unit store of pack and planlist, fragment store of unpack
 LIST_RECORDS = 512              # L13, OBU list and plan list of pack and planlist
 OUTPUT_BYTES = 65_536           # L14, room of pack for a packet, output of unpack
+PAYLOAD_STORE = 65_536          # L14, payload buffer of unpack
 OBU_NUMBERS = 5                 # L16, numbers of an OBU record in a flat list
 PLAN_NUMBERS = 6                # L16, numbers of a plan record in a flat list
 END_LIMIT = 4_294_967_295       # L17, where a payload of a plan ends in the output
+SHORT_PAYLOAD = 65_533          # L18, the longest payload of a train of version 1
+WIDTHS = {1: 2, 2: 4}           # T1, by a train's version the bytes of its length fields
+MTU_BYTES = {1: 2, 2: 4}        # G2, by the version of pack's input the bytes of its mtu
 
 Obu = namedtuple("Obu", "header extension start length size")          # O7
 Packet = namedtuple("Packet", "first count offset last size start")     # P2
@@ -510,31 +514,41 @@ def receive(state, number, data, store, out):
 
 # ---- the train file
 
-def train_record(number, data):
-    """T2. One record of a train."""
-    return (len(data) + 2).to_bytes(2, "big") + number.to_bytes(2, "big") + data
+def train_version(most):
+    """T1, L18. The version of a train whose payloads have at most so many bytes."""
+    return 2 if most > SHORT_PAYLOAD else 1
 
 
-def read_version(source):
-    """T1. The version byte of a train, or R21."""
-    if source.read(1, "train") != b"\x01":
+def train_record(number, data, version=1):
+    """T2. One record of a train of this version."""
+    return (len(data) + 2).to_bytes(WIDTHS[version], "big") + number.to_bytes(2, "big") + data
+
+
+def read_width(source):
+    """T1. The bytes of a length field, by the version byte of a train; or R21."""
+    version = source.read(1, "train")
+    if not version or version[0] not in WIDTHS:
         raise Refused(21)
+    return WIDTHS[version[0]]
 
 
-def read_record(source, of):
-    """T2, T3, C4. The next record of a train as number and payload, None at its end, or R22 or R23."""
-    field = source.read(2, of)
-    if not field:
+def read_record(source, width, of):
+    """T2, T3, C4. The next record of a train as number and payload, None at its end, or R22 or R23.
+
+    Length and number are read at once, then the payload.
+    """
+    fields = source.read(width + 2, of)
+    if not fields:
         return None
-    if len(field) < 2:
+    if len(fields) < width:
         raise Refused(22)
-    length = int.from_bytes(field, "big")
+    length = int.from_bytes(fields[:width], "big")
     if length < 3:
         raise Refused(23)
-    body = source.read(length, of)
-    if len(body) < length:
+    payload = source.read(length - 2, of)
+    if len(fields) + len(payload) < width + length:
         raise Refused(22)
-    return int.from_bytes(body[:2], "big"), body[2:]
+    return int.from_bytes(fields[width:], "big"), payload
 
 
 # ---- the programs
@@ -567,14 +581,25 @@ def refused(of, number):
     return Said("%s: %d (%s)" % (of, number, WORDS[number]))
 
 
+def read_pack_head(source):
+    """G2, G6. The head of pack's input as mtu and first number, or None. The version byte is read first, then what its version has."""
+    version = source.read(1, "input")
+    if not version or version[0] not in MTU_BYTES:
+        return None
+    width = MTU_BYTES[version[0]]
+    rest = source.read(width + 2, "input")
+    return (int.from_bytes(rest[:width], "big"), int.from_bytes(rest[width:], "big")) if len(rest) == width + 2 else None
+
+
 def pack_steps(source):
-    """G2 to G4, G6, G7. What `pack` does, step by step."""
-    head = source.read(5, "input")
-    if len(head) < 5 or head[0] != 1:
+    """G2 to G4, G6, G7. What `pack` does, step by step. The train's version goes by the mtu, not by the input's version."""
+    head = read_pack_head(source)
+    if head is None:
         yield Said("input: no head")
         return
-    yield Written("train", b"\x01")
-    mtu, number = int.from_bytes(head[1:3], "big"), int.from_bytes(head[3:5], "big")
+    mtu, number = head
+    version = train_version(mtu)
+    yield Written("train", bytes([version]))
     for index in counted():
         of = "unit %d" % index
         field = source.read(4, of)
@@ -597,15 +622,22 @@ def pack_steps(source):
         out = bytearray(OUTPUT_BYTES)
         for made in payloads(unit, records(obus[:OBU_NUMBERS * count], Obu, OBU_NUMBERS),
                              records(plan[:PLAN_NUMBERS * packets], Packet, PLAN_NUMBERS)):
-            size = put(out, made)                   # never R10: a payload is no longer than the mtu (P13), and L2 is below L14
-            yield Written(of, train_record(number, bytes(out[:size])))
+            size = put(out, made)                   # never R10: a payload is hardly longer than its unit, and L12 is half of L14
+            yield Written(of, train_record(number, bytes(out[:size]), version))
             number = (number + 1) % 65_536
+
+
+def receive_stored(state, number, data, store, out):
+    """G5, G16, L14. What `unpack` does with a record: one that is too long for its payload buffer is passed over as R13."""
+    if len(data) > PAYLOAD_STORE:
+        raise Refused(13)
+    return receive(state, number, data, store, out)
 
 
 def unpack_steps(source):
     """G5 to G7, G15. What `unpack` does, step by step."""
     try:
-        read_version(source)
+        width = read_width(source)
     except Refused as bad:
         yield refused("train", bad.number)
         return
@@ -614,14 +646,14 @@ def unpack_steps(source):
     for index in counted():
         of = "record %d" % index
         try:
-            record = read_record(source, of)
+            record = read_record(source, width, of)
         except Refused as bad:
             yield refused(of, bad.number)
             break
         if record is None:
             break
         try:
-            taken = receive(state, *record, store, out)
+            taken = receive_stored(state, *record, store, out)
         except Refused as bad:
             yield refused(of, bad.number)
             packets += 1
@@ -795,7 +827,9 @@ UNIT_ROWS = [  # unit, mtu, payloads or refusal
     ("32" + "80" * 8 + "00", 20, "6 at 0"),
     ("32 00" * 3 + "32 06" + "A1" * 6, 8, "30 01 30 01 30 30 / 50 30 A1 A1 A1 A1 A1 / 90 A1"),
     ("B3 01 7F", 20, "10 B1 7F"),
-    ("0A 01 7F", 65_534, "1 at 0"),
+    ("0A 01 7F", 65_534, "10 08 7F"),
+    ("0A 01 7F", 1_048_576, "10 08 7F"),
+    ("0A 01 7F", 1_048_577, "1 at 0"),
 ]
 NEW_ROWS = [  # H10 and more: unit, N of packet 0
     ("0A 01 00 32 01 10", 1), ("0A 01 00 1A 01 10", 1), ("0A 01 00 3A 01 10", 0), ("0A 01 00 22 01 10", 0),
@@ -877,8 +911,8 @@ def test_list(t):
     t.same("over the limit", answer(kept_obus, b"\x36" * (UNIT_LIMIT + 1)), [2, 0])
     for case, want in [
         ("2 5 0 0 32003200", "refused 8 2"), ("9 0 0 0 -", "obus 0 packets 0"), ("2 5 0 0 3200", "obus 1 50,0,2,0,1 packets 0"),
-        ("3 0 0 0 12007A00", "obus 0 packets 0"), ("65534 0 0 0 36", "refused 1 0"), ("3 5 5 9 3200", "refused 9 0"),
-        ("3 5 6 1 3200", "refused 10 0"),
+        ("3 0 0 0 12007A00", "obus 0 packets 0"), ("1048577 0 0 0 36", "refused 1 0"), ("1048576 0 0 0 36", "refused 3 0"),
+        ("65534 0 0 0 36", "refused 3 0"), ("3 5 5 9 3200", "refused 9 0"), ("3 5 6 1 3200", "refused 10 0"),
         ("3 5 6 2 3200*2", "obus 1 50,0,2,0,1 packets 1 0,1,0,1,1,0 headers 10 payloads 1030"),
         ("3 5 11 6 3001*4", "refused 9 0"), ("3 5 12 2 3001*4", "refused 10 0"),
         ("3 5 12 3 3001*4", "obus 1 48,0,1,3,4 packets 2 0,1,0,2,2,0;0,1,2,2,2,3 headers 50,90 payloads 503001,900101"),
@@ -906,6 +940,13 @@ def test_plan(t):
         t.same("starts for sizes %r, mtu %d" % (sizes, mtu), [packet.start for packet in plan_of(sizes, mtu)], want)
     unit = b"\x32\x7F" + bytes(127) + b"\x30\x00"
     t.same("mtu 132", [len(p) for p in payloads(unit, kept_obus(unit), plan_of([128, 2], 132))], [132, 2])
+    # L2: an OBU that just goes in whole, and one that is cut
+    for size, want in [(1_048_574, [(0, 1, 0, 1_048_574, 1_048_574, 0)]),
+                       (1_048_575, [(0, 1, 0, 1_048_574, 1_048_574, 0), (0, 1, 1_048_574, 1, 1, 1_048_575)]),
+                       (1_048_576, [(0, 1, 0, 1_048_575, 1_048_575, 0), (0, 1, 1_048_575, 1, 1, 1_048_576)])]:
+        t.same("size %d at the largest mtu" % size, plan_of([size], 1_048_576), want)
+    unit = b"\x30" + bytes(UNIT_LIMIT - 1)
+    t.same("the largest payload", [len(p) for p in payloads(unit, kept_obus(unit), plan_of([UNIT_LIMIT], MTU_LIMIT))], [1_048_576, 2])
     unit = bytes.fromhex("32 01 A1") * 349_525 + b"\x30"
     t.same("most records", (len(unit), len(plan_of([o.size for o in kept_obus(unit)], 3))), (UNIT_LIMIT, 699_051))
 
@@ -958,13 +999,17 @@ GOOD, HUGE = (PACKED, PACKED_LIST, PACKED_PLAN), 2 ** 64 - 1
 def test_left(t):
     """C5, C6, C9: what each refusal of the plan call leaves in the lent slices."""
     for mtu, list_numbers, plan_numbers, want in [
-        (65_534, 10, 12, ([1, 0], False, False)), (5, 9, 12, ([8, 3], False, False)), (5, 10, 11, ([9, 0], True, False)),
+        (1_048_577, 10, 12, ([1, 0], False, False)), (5, 9, 12, ([8, 3], False, False)), (5, 10, 11, ([9, 0], True, False)),
         (5, 10, 12, ((2, 2), True, True)),
     ]:
         obus, plan = [7] * list_numbers, [7] * plan_numbers
         got = answer(plan_unit, mtu, PACKED, obus, plan)
         t.same("left by %r" % (want[0],), (got, obus, plan), (
             want[0], PACKED_LIST if want[1] else [7] * list_numbers, PACKED_PLAN if want[2] else [7] * plan_numbers))
+    for mtu in (65_533, 65_534, 65_535, 65_536, 1_048_575, 1_048_576):
+        obus, plan = [7] * 10, [7] * 12
+        got = plan_unit(mtu, PACKED, obus, plan)
+        t.same("left at mtu %d" % mtu, (got, obus, plan), ((2, 1), PACKED_LIST, [0, 2, 0, 1, 4, 0] + [7] * 6))
 
 
 def writing(t, what, want, call, mtu, lent, *which):
@@ -1007,7 +1052,8 @@ def test_writing(t):
         writing(t, "%d from %d on into %d" % (count, first, space), want, write_packets, 5, GOOD, first, count, space)
     # 1 to 7 before 31, 11 and 10, also where no packet is asked for; 3 to 7 with their offset
     for what, want, mtu, unit in [
-        ("1 before 3", 1, 65_534, b"\x36"), ("1 before 31", 1, 65_534, PACKED), ("2", 2, 5, bytes(UNIT_LIMIT + 1)),
+        ("1 before 3", 1, 1_048_577, b"\x36"), ("1 before 31", 1, 1_048_577, PACKED), ("2", 2, 5, bytes(UNIT_LIMIT + 1)),
+        ("no 1", 3, 1_048_576, b"\x36"), ("no 1 at 65,534", 3, 65_534, b"\x36"),
         *(("%d" % number, [number, 5], 5, PACKED + bytes.fromhex(end))
           for number, end in ((3, "36"), (4, "32"), (5, "32 FF"), (6, "32 80 80 80 80 10"), (7, "32 01"))),
     ]:
@@ -1017,9 +1063,11 @@ def test_writing(t):
 
 def test_differ(t):
     """R31: lists of another mtu or unit, a number changed, shorter ones; before 11 and 10. What stands behind is not looked at."""
-    for mtu in (3, 6, 65_533):
+    for mtu in (3, 6, 65_533, 65_534, 1_048_576):
         writing_one(t, "31, a plan of mtu 5 at %d" % mtu, 31, mtu, GOOD, 0, 9)
     writing_one(t, "mtu 4 has the plan of mtu 5", "10 08 7F", 4, GOOD, 0, 9)
+    for mtu in (65_533, 65_534, 1_048_576):
+        writing_one(t, "one packet at mtu %d" % mtu, "20 02 08 7F 30", mtu, (*GOOD[:2], [0, 2, 0, 1, 4, 0]), 0, 9)
     writing_one(t, "31, another unit", 31, 5, (PACKED + b"\x32\x00", *GOOD[1:]), 0, 9)
     writing_one(t, "31, lists in each other's place", 31, 5, (PACKED, PACKED_PLAN, PACKED_LIST), 0, 9)
     for which, own in ((1, PACKED_LIST), (2, PACKED_PLAN)):
@@ -1150,8 +1198,9 @@ def test_elements(t):
     t.same("no element 3", element(bytes.fromhex("30 01 30 02 31 32 33"), 3), b"")
     t.same("a later element is bad", element(bytes.fromhex("00 01 30 02 30"), 0), b"")
     t.same("empty payload", element(b"", 0), b"")
-    t.same("payload at its limit", len(element(b"\x10" + bytes(PAYLOAD_LIMIT - 1), 0)), PAYLOAD_LIMIT - 1)
-    t.same("payload over its limit", element(b"\x10" + bytes(PAYLOAD_LIMIT), 0), b"")
+    for size in (65_533, 65_534, 65_536, 65_537, 1_048_576):
+        t.same("payload of %d bytes" % size, len(element(b"\x10" + bytes(size - 1), 0)), size - 1)
+    t.same("payload over its limit", element(b"\x10" + bytes(1_048_576), 0), b"")
 
 
 def test_receiver(t):
@@ -1164,7 +1213,9 @@ def test_receiver(t):
         ("12 limit", State(True, 0, FRAGMENT_LIMIT + 1), 1, "", (FRAGMENT_LIMIT + 2, 9), 12),
         ("13 empty", FRESH, 0, "", (4, 9), 13),
         ("13 before 14", took, 41, "", (4, 9), 13),
-        ("13 over", FRESH, 0, "10" + "30" * PAYLOAD_LIMIT, (4, 9), 13),
+        ("13 over", FRESH, 0, "10" + "30" * 1_048_576, (4, 9), 13),
+        ("13 before 14, over", took, 41, "10" + "30" * 1_048_576, (4, 9), 13),
+        ("no 13, so 20", FRESH, 0, "10" + "30" * 1_048_575, (4, 9), 20),
         ("14 same", took, 41, "88", (4, 9), 14),
         ("14 half way", took, 41 + 32_768, "10 30", (4, 9), 14),
         ("ahead", took, 41 + 32_767, "10 30", (4, 9), ("3200", State(True, 41 + 32_767, 0), "A1A2A3A4", "F")),
@@ -1202,6 +1253,10 @@ def test_receiver(t):
             t.same("receiver %s" % what, (got, store.hex().upper(), bytes(out)),
                    ((want[1], len(handed), "F" in want[3], "E" in want[3]), want[2],
                     handed + b"\xEE" * (lent[1] - len(handed))))
+    for size in (65_533, 65_534, 65_537, 1_048_576):
+        out, want = bytearray(size + 3), b"\x32" + write_field(size - 2) + b"\xA5" * (size - 2)
+        got = receive(FRESH, 7, b"\x10\x30" + b"\xA5" * (size - 2), bytearray(), out)
+        t.same("payload of %d bytes" % size, (got, out[:got.bytes]), ((State(True, 7, 0), len(want), False, False), want))
     got = receive(State(True, 0, FRAGMENT_LIMIT - 1), 1, b"\xD0\x30", bytearray(FRAGMENT_LIMIT + 1), bytearray())
     t.same("open fragment at its limit", got, (State(True, 1, FRAGMENT_LIMIT), 0, False, False))
     store, out = bytearray(9), bytearray(9)
@@ -1246,16 +1301,23 @@ def test_delivery(t):
         t.same("run %d, refusals" % run, refused, len(arrivals) - len(timely))
 
 
+CUT, SHORT = "22 (the train ends inside a record)", "23 (a record's length is below 3)"
+OVER, NO_ROOM = "13 (the payload is empty or over its limit)", "20 (the output is too short for the OBUs)"
+LOST = "lost: %d packets passed over, %d open fragments, %d leading elements"
+
+
 def test_programs(t):
     head = bytes.fromhex("01 00 05 00 00 00 05")
     example = head + bytes.fromhex("0A 01 7F 32 00")
     t.same("planlist", planlist(example), "obus 2\npackets 2\n0 0 1 0 2 2 10 0\n1 1 1 0 1 1 10 3\n")
     for what, data in [("empty", b""), ("head cut", head[:6]), ("less", example[:-1]), ("more", example + b"\0"),
-                       ("version", b"\x02" + example[1:]), ("store", b"\x01\x00\x05\x00\x00\x80\x01" + bytes(32_769))]:
+                       ("version", b"\x02" + example[1:]), ("version, mtu of 32 bits", b"\x02\x00\x00" + example[1:]),
+                       ("store", b"\x01\x00\x05\x00\x00\x80\x01" + bytes(32_769))]:
         t.same("planlist, %s" % what, planlist(data), "bad input\n")
     t.same("planlist, no unit", planlist(bytes.fromhex("01 00 05 00 00 00 00")), "obus 0\npackets 0\n")
     t.same("planlist, refused", planlist(bytes.fromhex("01 00 05 00 00 00 03 32 02 A1")), "refused 7 0\n")
-    t.same("planlist, mtu", planlist(b"\x01\xFF\xFE" + example[3:]), "refused 1 0\n")
+    for mtu in (b"\xFF\xFD", b"\xFF\xFE", b"\xFF\xFF"):
+        t.same("planlist, mtu %s" % mtu.hex(), planlist(b"\x01" + mtu + example[3:]), "obus 2\npackets 1\n0 0 2 0 1 4 20 0\n")
     t.same("planlist, full store", planlist(b"\x01\xFF\xFD\x00\x00\x80\x00" + b"\x30" + bytes(32_767)),
            "obus 1\npackets 1\n0 0 1 0 32768 32768 10 0\n")
     t.same("planlist, 512 OBUs", planlist(b"\x01\xFF\xFD\x00\x00\x04\x00" + b"\x32\x00" * 512),
@@ -1269,39 +1331,37 @@ def test_programs(t):
         ("whole", bytes.fromhex("01 00 05 FF FF") + units, (train, b"")),
         ("head alone", bytes.fromhex("01 00 05 FF FF"), (b"\x01", b"")),
         ("empty", b"", no_head), ("head cut", bytes.fromhex("01 00 05 FF"), no_head),
-        ("version", bytes.fromhex("02 00 05 FF FF"), no_head),
+        ("version 0", bytes.fromhex("00 00 05 FF FF"), no_head), ("version 3", bytes.fromhex("03 00 00 00 05 FF FF"), no_head),
         ("cut", bytes.fromhex("01 00 05 FF FF") + units[:-1], (train[:-6], b"unit 2: cut\n")),
         ("length cut", bytes.fromhex("01 00 05 FF FF") + units[:-2], (train[:-6], b"unit 2: cut\n")),
         ("store", bytes.fromhex("01 FF FD 00 00 00 00 80 01") + b"\x30" * 32_769, (b"\x01", b"unit 0: cut\n")),
         ("refused", bytes.fromhex("01 00 05 00 00 00 00 00 01 32") + units,
          (b"\x01", b"unit 0: 4 (an OBU's size field is missing)\n")),
-        ("mtu", bytes.fromhex("01 FF FE 00 00") + units, (b"\x01", b"unit 0: 1 (the mtu is over its limit)\n")),
     ]:
         t.same("pack, %s" % what, outputs("pack", data), want)
     t.same("unpack", outputs("unpack", train), (bytes.fromhex("0A 01 7F 32 00 32 00"), b""))
-    cut, short = "22 (the train ends inside a record)", "23 (a record's length is below 3)"
-    lost = "lost: %d packets passed over, %d open fragments, %d leading elements"
     for what, file, written, *said in [
         ("empty", "", "", "train: 21 (no train of a known version)"),
-        ("version", "02", "", "train: 21 (no train of a known version)"),
+        ("version 0", "00", "", "train: 21 (no train of a known version)"),
+        ("version 3", "03 00000004 0000 1030", "", "train: 21 (no train of a known version)"),
         ("nothing", "01", ""),
-        ("length cut", "01 00", "", "record 0: " + cut),
-        ("record cut", "01 0004 0000 10", "", "record 0: " + cut),
-        ("length 2", "01 0002", "", "record 0: " + short),
-        ("length 0 alone", "01 0000", "", "record 0: " + short),
-        ("shortest record", "01 0003 0000 10", "", "record 0: 17 (an element is empty, missing or past the end)", lost % (1, 0, 0)),
+        ("length cut", "01 00", "", "record 0: " + CUT),
+        ("record cut", "01 0004 0000 10", "", "record 0: " + CUT),
+        ("length 2", "01 0002", "", "record 0: " + SHORT),
+        ("length 0 alone", "01 0000", "", "record 0: " + SHORT),
+        ("shortest record", "01 0003 0000 10", "", "record 0: 17 (an element is empty, missing or past the end)", LOST % (1, 0, 0)),
         ("a repeat passed over", "01 00040007 1030 00040007 1030 00040008 1030", "3200 3200",
-         "record 1: 14 (the number is not ahead)", lost % (1, 0, 0)),
-        ("before the stop", "01 00040007 1030 0001", "3200", "record 1: " + short),
-        ("a fragment still open", "01 00040007 5030", "", lost % (0, 1, 0)),
-        ("a fragment open at the stop", "01 00040007 5030 00", "", "record 1: " + cut, lost % (0, 1, 0)),
-        ("a packet lost", "01 00040007 5030 00040009 9030 0004000A 1030", "3200", lost % (0, 1, 1)),
-        ("Z clear in step", "01 00040007 5030 00040008 1030", "3200", lost % (0, 1, 0)),
-        ("no beginning", "01 00040007 9030 00040008 D030 00040009 9030", "", lost % (0, 0, 3)),
+         "record 1: 14 (the number is not ahead)", LOST % (1, 0, 0)),
+        ("before the stop", "01 00040007 1030 0001", "3200", "record 1: " + SHORT),
+        ("a fragment still open", "01 00040007 5030", "", LOST % (0, 1, 0)),
+        ("a fragment open at the stop", "01 00040007 5030 00", "", "record 1: " + CUT, LOST % (0, 1, 0)),
+        ("a packet lost", "01 00040007 5030 00040009 9030 0004000A 1030", "3200", LOST % (0, 1, 1)),
+        ("Z clear in step", "01 00040007 5030 00040008 1030", "3200", LOST % (0, 1, 0)),
+        ("no beginning", "01 00040007 9030 00040008 D030 00040009 9030", "", LOST % (0, 0, 3)),
         ("refused in step, then joined", "01 00040007 5030 00040008 98A1 00040008 90A1", "3201A1",
-         "record 1: 15 (N and Z are both set)", lost % (1, 0, 0)),
+         "record 1: 15 (N and Z are both set)", LOST % (1, 0, 0)),
         ("all three, and the stop", "01 00040007 5030 00040007 5030 00040009 9030 0004000A 5030 0002", "",
-         "record 1: 14 (the number is not ahead)", "record 4: " + short, lost % (1, 2, 1)),
+         "record 1: 14 (the number is not ahead)", "record 4: " + SHORT, LOST % (1, 2, 1)),
     ]:
         t.same("unpack, %s" % what, outputs("unpack", bytes.fromhex(file)),
                (bytes.fromhex(written), "".join(line + "\n" for line in said).encode()))
@@ -1309,6 +1369,94 @@ def test_programs(t):
     t.same("unpack after pack", outputs("unpack", outputs("pack", bytes.fromhex("01 00 09 FF FE") + two)[0]),
            (b"\x32\x26" + bytes(38) + bytes.fromhex("36 08 00"), b""))
     t.same("words of each refusal", (sorted(WORDS), len(set(WORDS.values()))), ([*range(1, 24), 31], 24))
+
+
+def pack_head(version, mtu):
+    """A head of pack's input of this version, the first number being 65,535."""
+    return bytes([version]) + mtu.to_bytes(MTU_BYTES[version], "big") + b"\xFF\xFF"
+
+
+def test_pack_versions(t):
+    """G2, G3, G6, L18: both versions of pack's input, and the version of the train, which goes by the mtu."""
+    unit = bytes.fromhex("00 00 00 05 0A 01 7F 32 00 00 00 00 01 30")
+    small, short, long = (bytes.fromhex(text) for text in (
+        "01 0005FFFF10087F 000400001030 000400011030", "01 0007FFFF2002087F30 000400001030",
+        "02 00000007FFFF2002087F30 0000000400001030"))
+    over = b"unit 0: 1 (the mtu is over its limit)\n"
+    for version, mtu, want in [
+        (1, 5, (small, b"")), (2, 5, (small, b"")), (1, 2, (b"\x01", b"")), (2, 2, (b"\x01", b"")),
+        (1, 65_533, (short, b"")), (2, 65_533, (short, b"")), (1, 65_534, (long, b"")), (2, 65_534, (long, b"")),
+        (1, 65_535, (long, b"")), (2, 65_535, (long, b"")), (2, 65_536, (long, b"")), (2, 1_048_576, (long, b"")),
+        (2, 1_048_577, (b"\x02", over)), (2, 4_294_967_295, (b"\x02", over)),
+    ]:
+        t.same("pack, version %d, mtu %d" % (version, mtu), outputs("pack", pack_head(version, mtu) + unit), want)
+        t.same("the same, head alone", outputs("pack", pack_head(version, mtu)), (want[0][:1], b""))
+    for n in range(7):
+        t.same("pack, version 2, %d bytes" % n, outputs("pack", pack_head(2, 1_048_576)[:n]), (b"", b"input: no head\n"))
+    # an OBU that needs a record of version 2 does not fit the unit store: the largest one there is
+    most = b"\x32" + write_field(32_764) + b"\xA5" * 32_764
+    for mtu, head in ((65_533, "01 8000FFFF"), (65_534, "02 00008000FFFF")):
+        t.same("pack, the longest payload at mtu %d" % mtu, outputs("pack", pack_head(2, mtu) + b"\x00\x00\x80\x00" + most),
+               (bytes.fromhex(head) + b"\x10\x30" + b"\xA5" * 32_764, b""))
+
+
+def test_train_versions(t):
+    """T1 to T3, C4, L11: trains of version 2 beside the same ones of version 1, cut everywhere."""
+    packets = [(65_535, "5030A1"), (0, "90A2"), (0, "1030"), (2, "1030")]
+    handed, said = bytes.fromhex("3202A1A2 3200"), ["record 2: 14 (the number is not ahead)", LOST % (1, 0, 0)]
+    for version, width in WIDTHS.items():
+        file = bytes([version]) + b"".join(train_record(n, bytes.fromhex(data), version) for n, data in packets)
+        t.same("version %d" % version, outputs("unpack", file), (handed, "".join(line + "\n" for line in said).encode()))
+        first = train_record(65_535, b"\x10\x30", version)
+        for n in range(1, len(first)):
+            t.same("version %d, %d bytes of a record" % (version, n), outputs("unpack", bytes([version]) + first + first[:n]),
+                   (b"\x32\x00", ("record 1: %s\n" % CUT).encode()))
+        for length in (0, 1, 2):
+            for behind in (b"", b"\x00", bytes(2 + length), first):
+                t.same("version %d, length %d" % (version, length), outputs(
+                    "unpack", bytes([version]) + first + length.to_bytes(width, "big") + behind),
+                    (b"\x32\x00", ("record 1: %s\n" % SHORT).encode()))
+    for what, file, written, *said in [
+        ("nothing", "02", ""),
+        ("least length", "02 00000003 0000 10", "", "record 0: 17 (an element is empty, missing or past the end)", LOST % (1, 0, 0)),
+        ("high bytes of a length", "02 01000004 0000 1030", "", "record 0: " + CUT),
+        ("greatest length", "02 FFFFFFFF 0000 1030", "", "record 0: " + CUT),
+        ("least length of version 1 read as version 2", "02 0003 0000 10", "", "record 0: " + CUT),
+        ("version 2 read as version 1", "01 00000004 0000 1030", "", "record 0: " + SHORT),
+    ]:
+        t.same("unpack, version 2, %s" % what, outputs("unpack", bytes.fromhex(file)),
+               (bytes.fromhex(written), "".join(line + "\n" for line in said).encode()))
+
+
+def test_payload_store(t):
+    """G5, G16, L14: payloads that just fit the store of `unpack`; a longer one is passed over, and the state stays."""
+    def file(*packets):
+        return b"\x02" + b"".join(train_record(number, data, 2) for number, data in packets)
+    opened, after, good = (7, b"\x50\x30\xA1"), (9, b"\x90\xA3"), (10, b"\x10\x30")
+    for size in (65_533, 65_534, 65_535, 65_536):
+        body = b"\xA5" * (size - 5)
+        whole = b"\x10\x32" + write_field(len(body)) + body
+        t.same("an OBU in %d bytes" % size, outputs("unpack", file((7, whole), (8, b"\x10\x30"))), (whole[1:] + b"\x32\x00", b""))
+        t.same("an end of %d bytes" % size, outputs("unpack", file((7, b"\x90" + bytes(size - 1)), (8, b"\x10\x30"))),
+               (b"\x32\x00", (LOST % (0, 0, 1) + "\n").encode()))
+        obu, fits = b"\x30" + body + b"\xA5" * 3, size + 2 <= OUTPUT_BYTES     # with a size field it has three bytes more: 20, not 13
+        t.same("an OBU without a size field in %d bytes" % size, outputs("unpack", file((7, b"\x10" + obu), good)), (
+            (wire(obu) if fits else b"") + b"\x32\x00", b"" if fits else ("record 0: %s\n%s\n" % (NO_ROOM, LOST % (1, 0, 0))).encode()))
+    for size in (65_537, 65_538, 200_000, 1_048_576, 1_048_577):
+        long = (8, b"\x90" + b"\xA2" * (size - 1))
+        for what, packets, written, *said in [
+            ("alone", [long], "", "record 0: " + OVER, LOST % (1, 0, 0)),
+            ("then out of step", [opened, long, after, good], "3200", "record 1: " + OVER, LOST % (1, 1, 1)),
+            ("its number comes again", [opened, long, (8, b"\x90\xA2")], "3202A1A2", "record 1: " + OVER, LOST % (1, 0, 0)),
+            ("13 before 14", [good, long, (11, b"\x10\x30")], "32003200", "record 1: " + OVER, LOST % (1, 0, 0)),
+            ("a fragment stays open", [opened, long], "", "record 1: " + OVER, LOST % (1, 1, 0)),
+        ]:
+            t.same("unpack, %d bytes, %s" % (size, what), outputs("unpack", file(*packets)),
+                   (bytes.fromhex(written), "".join(line + "\n" for line in said).encode()))
+        whole = file(opened, long)
+        for cut in (1, 2, size - 65_536, size - 1, size, size + 1, size + 2, size + 5):
+            t.same("unpack, %d bytes, %d short" % (size, cut), outputs("unpack", whole[:-cut]),
+                   (b"", ("record 1: %s\n%s\n" % (CUT, LOST % (0, 1, 0))).encode()))
 
 
 def test_failures(t):
@@ -1320,8 +1468,17 @@ def test_failures(t):
         ("unpack", file[:0], b"train: read failed\n"), ("unpack", file[:1], b"record 0: read failed\n"),
         ("unpack", file[:2], b"record 0: read failed\n"), ("unpack", file[:6], b"record 0: read failed\n"),
         ("unpack", file[:7], b"record 1: read failed\n"), ("unpack", file[:13], behind + b"record 2: read failed\n"),
-        ("unpack", b"\2", b"train: 21 (no train of a known version)\n"),
+        ("unpack", b"\3", b"train: 21 (no train of a known version)\n"), ("unpack", b"\2", b"record 0: read failed\n"),
+        ("unpack", file[:5], b"record 0: read failed\n"), ("unpack", b"\1\0\2", b"record 0: read failed\n"),
+        ("unpack", b"\1\0\2\0\0", b"record 0: 23 (a record's length is below 3)\n"),
+        ("unpack", b"\2\0\0\0\2", b"record 0: read failed\n"),
+        ("unpack", b"\2\0\0\0\2\0\0", b"record 0: 23 (a record's length is below 3)\n"),
+        ("unpack", b"\2\0\1\0\3\0\0" + bytes(65_536), b"record 0: read failed\n"),
+        ("unpack", b"\2\0\1\0\3\0\0" + bytes(65_537), b"record 0: 13 (the payload is empty or over its limit)\nrecord 1: read failed\n"),
         ("pack", units[:0], b"input: read failed\n"), ("pack", b"\2", b"input: read failed\n"),
+        ("pack", b"\2\0\0\0\5", b"input: read failed\n"), ("pack", b"\2\0\0\0\5\0", b"input: read failed\n"),
+        ("pack", b"\2\0\0\0\5\0\0", b"\1unit 0: read failed\n"), ("pack", b"\2\0\1\0\0\0\0", b"\2unit 0: read failed\n"),
+        ("pack", b"\3", b"input: no head\n"),
         ("pack", units[:4], b"input: read failed\n"), ("pack", units[:5], b"\1unit 0: read failed\n"),
         ("pack", units[:9], b"\1unit 1: read failed\n"), ("pack", units[:17], b"\1unit 1: read failed\n"),
         ("planlist", listed[:0], b"input: read failed\n"), ("planlist", listed[:6], b"input: read failed\n"),
@@ -1350,7 +1507,8 @@ def test_failures(t):
 def self_test():
     t = Test()
     for test in (test_fields, test_list, test_plan, test_law, test_vectors, test_left, test_writing, test_differ, test_no_packets,
-                 test_apart, test_header, test_inside, test_new, test_elements, test_receiver, test_delivery, test_programs, test_failures):
+                 test_apart, test_header, test_inside, test_new, test_elements, test_receiver, test_delivery, test_programs,
+                 test_pack_versions, test_train_versions, test_payload_store, test_failures):
         test(t)
     print("%d rows, %d do not hold" % (t.rows, t.failed))
     return 1 if t.failed else 0

@@ -22,7 +22,7 @@ FOUR = bytes([0x0A, 0x12, 0x30, 0x32, 0x34, 0x36, 0x46, 0x7A, 0xB3, 0x00, 0x01, 
 SIX = bytes([0x32, 0x36, 0x12, 0x00, 0x01, 0x80])
 KEPT = (1, 3, 6, 6, 6, 4, 5, 7, 0, 9)               # types of kept OBUs, frames more often
 DROPPED = (2, 2, 8, 15)
-LARGE_MTUS = (1200, 1500, 9000, 16_384, 16_390, 32_768, 65_532, 65_533, 65_534, 65_535, 100_000, 2_000_000)
+LARGE_MTUS = (1200, 1500, 9000, 16_384, 16_390, 32_768, 65_533, 65_534, 100_000, 1_048_576, 1_048_577, 2_000_000)
 
 
 class Dice:
@@ -319,6 +319,8 @@ def at_limit():
     for numbers, mtu, unit in (
         (ample, 1200, b"\x30" + b"\x7F" * (full - 1)), (5, 65_533, b"\x30" + b"\x80" * (full - 1)),
         (5, 3, whole), (0, 1200, whole), (5, 65_533, whole), (9, 1200, whole[:-1]), (5, 1200, whole + b"\x30"),
+        (5, 1_048_576, b"\x30" + b"\x80" * (full - 1)), (5, 1_048_576, whole), (5, 1_048_577, whole),
+        (5, MOST_OUTPUT, whole), (5, MOST_OUTPUT + 1, whole),
         (ample, 1200, b"\x30" + b"\x7F" * full), (ample, 0, b"\x36" * (full + 1)),
         (ample, 0, whole + b"\x36"), (ample, 0, whole + b"\x32"), (ample, 0, b"\x32" + field(full) + bytes(full - 3)),
         (ample, 0, b"\x12\x00" * (full // 2)), (ample, 1200, b"\x32\x00" * (full // 2)),
@@ -349,7 +351,7 @@ KINDS = [  # name, how many, the cases, whether there are more
     ("tight", 10_000, tight, True),
     ("fields", 25_000, fields, True),
     ("damaged", 60_000, damaged, True),
-    ("at the limit", 29, at_limit, False),
+    ("at the limit", 34, at_limit, False),
 ]
 ALL = sum(count for _, count, _, _ in KINDS)
 

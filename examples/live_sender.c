@@ -2,15 +2,15 @@
  *
  *     live_sender < examples/clip.in
  *
- * The input is that of `pack`: 01, mtu and first number in two bytes each, then units, each behind its length in four bytes. To send a
- * packet is here to print its number and its payload, a line each. */
+ * The input is that of `pack`: 01, mtu and first number in two bytes each, or 02, mtu in four bytes and first number in two; then units,
+ * each behind its length in four bytes. To send a packet is here to print its number and its payload, a line each. */
 #include "av1rtp.h"
 
 #include <stdio.h>
 
 #define RECORDS 4096
 
-/* All that the sender has: a unit, the two lists, and one packet. */
+/* All that the sender has: a unit, the two lists, and one packet. A sender that knows its mtu has room for a packet of that length. */
 static uint8_t unit[AV1RTP_UNIT_LIMIT];
 static uint32_t obus[RECORDS * AV1RTP_OBU_NUMBERS], plan[RECORDS * AV1RTP_PLAN_NUMBERS];
 static uint8_t packet[AV1RTP_MTU_LIMIT];
@@ -23,13 +23,13 @@ static void send_packet(uint16_t number, size_t length) {
     printf("\n");
 }
 
-/* Sends a unit, and returns 0 or the number of the refusal. The packet buffer is lent as long as the mtu, which holds any packet. */
+/* Sends a unit, and returns 0 or the number of the refusal. An mtu over its limit is refused, so the buffer holds any packet. */
 static uint32_t send_unit(size_t mtu, size_t length, uint16_t *number) {
     size_t answer[AV1RTP_ANSWER_WORDS];
     uint32_t refusal = av1rtp_plan(mtu, unit, length, obus, RECORDS * AV1RTP_OBU_NUMBERS, plan, RECORDS * AV1RTP_PLAN_NUMBERS, answer);
     size_t listed = answer[1] * AV1RTP_OBU_NUMBERS, recorded = answer[2] * AV1RTP_PLAN_NUMBERS, packets = answer[2];
     for (size_t k = 0; refusal == 0 && k < packets; k++) {
-        refusal = av1rtp_write_packet(mtu, unit, length, obus, listed, plan, recorded, k, packet, mtu, answer);
+        refusal = av1rtp_write_packet(mtu, unit, length, obus, listed, plan, recorded, k, packet, sizeof packet, answer);
         if (refusal == 0) {
             send_packet((*number)++, answer[1]);
         }
@@ -51,8 +51,8 @@ static long read_number(int bytes) {
 }
 
 int main(void) {
-    long version = read_number(1), mtu = read_number(2), first = read_number(2);
-    if (version != 1 || mtu < 0 || first < 0) {
+    long version = read_number(1), mtu = read_number(version == 2 ? 4 : 2), first = read_number(2);
+    if ((version != 1 && version != 2) || mtu < 0 || first < 0) {
         fprintf(stderr, "input: no head\n");
         return 1;
     }

@@ -33,11 +33,12 @@
 extern "C" {
 #endif
 
-/* Limits (L1 to L4). mtu and payload are counted without the RTP header. */
+/* Limits (L1 to L4, L18). mtu and payload are counted without the RTP header. */
 #define AV1RTP_UNIT_LIMIT 1048576     /* bytes of a unit, 0 to this */
-#define AV1RTP_MTU_LIMIT 65533        /* mtu, 0 to this; below 3 there are no packets */
-#define AV1RTP_PAYLOAD_LIMIT 65533    /* bytes of a payload that is received, 1 to this */
+#define AV1RTP_MTU_LIMIT 1048576      /* mtu, 0 to this; below 3 there are no packets */
+#define AV1RTP_PAYLOAD_LIMIT 1048576  /* bytes of a payload that is received, 1 to this */
 #define AV1RTP_FRAGMENT_LIMIT 1048576 /* bytes of an open fragment */
+#define AV1RTP_SHORT_PAYLOAD 65533    /* bytes of a payload in a train of version 1; see trains */
 
 #define AV1RTP_OBU_NUMBERS 5   /* numbers of a record in an OBU list: header, extension byte or 0, payload start, payload length, size */
 #define AV1RTP_PLAN_NUMBERS 6  /* of a record in a plan: first OBU, elements, first offset, last size, packet size, payload start */
@@ -75,7 +76,7 @@ enum av1rtp_refusal {
     AV1RTP_FRAGMENT_TOO_LONG = 19, /* the new open fragment is longer than the store or its limit */
     AV1RTP_NO_ROOM_FOR_OBUS = 20, /* the output is too short for the OBUs of this packet */
     /* trains */
-    AV1RTP_TRAIN_VERSION = 21,    /* empty, or of another version than 1 */
+    AV1RTP_TRAIN_VERSION = 21,    /* empty, or of a version other than 1 and 2 */
     AV1RTP_TRAIN_CUT = 22,        /* ends inside a record */
     AV1RTP_RECORD_TOO_SHORT = 23, /* a record that states a length below 3 */
     /* write_packet, write_packets: given after 1 to 7 and before 11 and 10 */
@@ -137,19 +138,24 @@ uint32_t av1rtp_receive(size_t state[3], uint16_t number, const uint8_t *payload
  * answer: 0, elements, start, length. Refusals 13, 15, 16, 17. */
 uint32_t av1rtp_element(const uint8_t *payload, size_t payload_length, size_t k, size_t answer[4]);
 
-/* ---- trains: version byte 1, then records of a 16-bit length, a 16-bit number and a payload; the length counts number and payload */
+/* ---- trains: a version byte, then records of a length, a 16-bit number and a payload, big-endian; the length counts number and payload
+ *
+ * The length's width is 2 bytes in version 1 and 4 bytes in version 2. A writer uses version 2, width 4, exactly if its mtu is above
+ * AV1RTP_SHORT_PAYLOAD, and else version 1, which readers of version 1 alone take too. In the calls below any width but 4 counts as 2. */
 
-/* answer: 0, version. The first record begins at offset 1. Refusal 21. */
+/* answer: 0, version, width. The first record begins at offset 1. Refusal 21. */
 uint32_t av1rtp_train_head(const uint8_t *train, size_t train_length, size_t answer[4]);
 
-/* The record that begins at `at`; the next one begins where its payload ends. At the end of the train all words are 0: no record
- * has a payload of length 0. What stands before a refused record stands.
+/* The record that begins at `at`, in a train whose lengths have this width; the next one begins where its payload ends. At the end of
+ * the train, and past it, all words are 0: no record has a payload of length 0. What stands before a refused record stands. A payload
+ * may be longer than a receiver takes (13).
  * answer: 0, number, payload start, payload length. Refusals 22, 23. */
-uint32_t av1rtp_train_record(const uint8_t *train, size_t train_length, size_t at, size_t answer[4]);
+uint32_t av1rtp_train_record(const uint8_t *train, size_t train_length, size_t width, size_t at, size_t answer[4]);
 
-/* The four bytes before a payload: `stated` is the payload's length plus 2, so 3 to 65535. Any `stated` is written, 0 to 2 too, though
- * no reader takes such a record (23). */
-void av1rtp_train_record_head(uint16_t stated, uint16_t number, uint8_t head[4]);
+/* What stands before a payload, in the first width + 2 bytes of `head`; the others stay. `stated` is the payload's length plus 2, so 3
+ * to 65535 with width 2. Any `stated` is written, with width 2 its low 16 bits, and 0 to 2 too, though no reader takes such a record
+ * (23). */
+void av1rtp_train_record_head(uint32_t stated, uint16_t number, size_t width, uint8_t head[6]);
 
 /* ---- size fields */
 

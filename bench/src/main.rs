@@ -34,7 +34,7 @@ use work::Work;
 
 const SIZES: [usize; 4] = [300, 10_000, 100_000, 1_000_000];
 const OBUS: [usize; 3] = [1, 10, 1000];
-const MTUS: [usize; 3] = [100, 1200, 65_533];
+const MTUS: [usize; 4] = [100, 1200, 65_533, 1_048_576];
 
 type Side = (&'static str, fn(&mut Work));
 

@@ -59,7 +59,7 @@ impl Work {
             payloader: av1rtp::Payloader::new(),
             payloads: vec![],
             store: vec![0; unit.len()],
-            back: vec![0; unit.len() + 4 * mtu],
+            back: vec![0; unit.len()],
             unit,
         };
         work.ours();

@@ -2,8 +2,8 @@
 //!
 //!     cargo run --offline --example live_sender < ../examples/clip.in
 //!
-//! The input is that of `pack`: 01, mtu and first number in two bytes each, then units, each behind its length in four bytes. To send a
-//! packet is here to print its number and its payload, a line each.
+//! The input is that of `pack`: 01, mtu and first number in two bytes each, or 02, mtu in four bytes and first number in two; then units,
+//! each behind its length in four bytes. To send a packet is here to print its number and its payload, a line each.
 use std::io::{self, Read, Write};
 
 /// So many bytes from the front of the input, if it has them.
@@ -28,14 +28,17 @@ fn main() -> Result<(), Box<dyn std::error::Error>> {
     let mut bytes = Vec::new();
     io::stdin().read_to_end(&mut bytes)?;
     let mut input = &bytes[..];
-    let (Some(1), Some(mtu), Some(first)) =
-        (take_number(&mut input, 1), take_number(&mut input, 2), take_number(&mut input, 2))
-    else {
+    let width = match take_number(&mut input, 1) {
+        Some(1) => 2,
+        Some(2) => 4,
+        _ => return Err("input: no head".into()),
+    };
+    let (Some(mtu), Some(first)) = (take_number(&mut input, width), take_number(&mut input, 2)) else {
         return Err("input: no head".into());
     };
     let mut to = io::BufWriter::new(io::stdout().lock());
     let mut payloader = av1rtp::Payloader::new();
-    let mut packet = vec![0; mtu]; // holds any packet
+    let mut packet = vec![0; mtu.min(av1rtp::MTU_LIMIT)]; // holds any packet
     let mut number = first as u16;
     while !input.is_empty() {
         let length = take_number(&mut input, 4).ok_or("a unit is cut")?;

@@ -85,10 +85,11 @@ mod raw {
         pub(super) fn av1rtp_train_record(
             train: *const u8,
             train_length: usize,
+            width: usize,
             at: usize,
             answer: *mut [usize; 4],
         ) -> u32;
-        pub(super) fn av1rtp_train_record_head(stated: u16, number: u16, head: *mut [u8; 4]);
+        pub(super) fn av1rtp_train_record_head(stated: u32, number: u16, width: usize, head: *mut [u8; 6]);
         pub(super) fn av1rtp_size_field(
             bytes: *const u8,
             bytes_length: usize,
@@ -225,17 +226,15 @@ pub(crate) fn train_head(train: &[u8], answer: &mut Answer) -> u32 {
 }
 
 #[inline]
-pub(crate) fn train_record(train: &[u8], at: usize, answer: &mut Answer) -> u32 {
+pub(crate) fn train_record(train: &[u8], width: usize, at: usize, answer: &mut Answer) -> u32 {
     // SAFETY: as in `list`.
-    unsafe { raw::av1rtp_train_record(train.as_ptr(), train.len(), at, answer) }
+    unsafe { raw::av1rtp_train_record(train.as_ptr(), train.len(), width, at, answer) }
 }
 
 #[inline]
-pub(crate) fn train_record_head(stated: u16, number: u16) -> [u8; 4] {
-    let mut head = [0; 4];
-    // SAFETY: the head is an array of four bytes.
-    unsafe { raw::av1rtp_train_record_head(stated, number, &mut head) }
-    head
+pub(crate) fn train_record_head(stated: u32, number: u16, width: usize, head: &mut [u8; 6]) {
+    // SAFETY: the head is an array of six bytes.
+    unsafe { raw::av1rtp_train_record_head(stated, number, width, head) }
 }
 
 #[inline]

@@ -59,6 +59,15 @@ pub struct ElementPlace {
     pub length: usize,
 }
 
+/// A train's head.
+#[derive(Clone, Copy, Debug, PartialEq, Eq)]
+pub struct TrainHead {
+    /// The version, 1 or 2.
+    pub version: u8,
+    /// The bytes of a length in this version, 2 or 4.
+    pub width: usize,
+}
+
 /// A train's record.
 #[derive(Clone, Copy, Debug, PartialEq, Eq)]
 pub struct RecordPlace {
@@ -163,25 +172,28 @@ pub fn receive(
         .map(|[bytes, _, _]| bytes)
 }
 
-/// The version of a train. Refusal 21.
+/// The head of a train; its first record begins at 1. Refusal 21.
 #[inline]
-pub fn train_head(train: &[u8]) -> Result<u8, Refusal> {
-    answered(|answer| ffi::train_head(train, answer)).map(|[version, _, _]| version as u8)
+pub fn train_head(train: &[u8]) -> Result<TrainHead, Refusal> {
+    answered(|answer| ffi::train_head(train, answer))
+        .map(|[version, width, _]| TrainHead { version: version as u8, width })
 }
 
-/// The record of a train that begins at `at`, or nothing at the end. Refusals 22 and 23.
+/// The record that begins at `at`, in a train whose lengths have `width` bytes; nothing at the end and past it. Any width but 4 counts
+/// as 2. Refusals 22 and 23.
 #[inline]
-pub fn train_record(train: &[u8], at: usize) -> Result<Option<RecordPlace>, Refusal> {
-    let words = answered(|answer| ffi::train_record(train, at, answer))?;
+pub fn train_record(train: &[u8], width: usize, at: usize) -> Result<Option<RecordPlace>, Refusal> {
+    let words = answered(|answer| ffi::train_record(train, width, at, answer))?;
     let [number, start, length] = words;
     Ok((length > 0).then_some(RecordPlace { number: number as u16, start, length }))
 }
 
-/// The four bytes before a payload; `stated` is its length plus 2. Any `stated` is written, 0 to 2 too, though no
-/// reader takes such a record (23).
+/// What stands before a payload, in the first `width` + 2 bytes of `head`; the others stay. `stated` is the payload's length plus 2. Any
+/// `stated` is written, with width 2 its low 16 bits, and 0 to 2 too, though no reader takes such a record (23). Any width but 4 counts
+/// as 2.
 #[inline]
-pub fn train_record_head(stated: u16, number: u16) -> [u8; 4] {
-    ffi::train_record_head(stated, number)
+pub fn train_record_head(stated: u32, number: u16, width: usize, head: &mut [u8; 6]) {
+    ffi::train_record_head(stated, number, width, head)
 }
 
 /// The value of the size field (leb128) at the front of some bytes, and the bytes that it takes. Refusals 5 and 6.

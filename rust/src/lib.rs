@@ -30,13 +30,13 @@ pub use sender::{list, payload, plan, Obu, PacketMetadata, Payloader, Plan, Plan
 pub const UNIT_LIMIT: usize = 1_048_576;
 
 /// The largest mtu.
-pub const MTU_LIMIT: usize = 65_533;
+pub const MTU_LIMIT: usize = 1_048_576;
 
 /// The smallest mtu that gives packets.
 pub const LEAST_MTU: usize = 3;
 
 /// The most bytes of a payload that is received.
-pub const PAYLOAD_LIMIT: usize = 65_533;
+pub const PAYLOAD_LIMIT: usize = 1_048_576;
 
 /// The most bytes of an open fragment.
 pub const FRAGMENT_LIMIT: usize = 1_048_576;

@@ -24,6 +24,9 @@ pub struct Receiver {
 /// More than a packet can ever hand out: the open fragment, and the payload with a size field for each of its elements.
 const LONGEST_OUTPUT: usize = FRAGMENT_LIMIT + 5 * PAYLOAD_LIMIT;
 
+/// More than what a packet hands out can be longer than its payload if nothing is joined: a size field for its last element.
+const ADDED: usize = 8;
+
 impl Default for Receiver {
     fn default() -> Receiver {
         Receiver::new()
@@ -70,7 +73,7 @@ impl Receiver {
             Reason::NoRoomForObus => (&mut self.out, LONGEST_OUTPUT),
             _ => return Err(refusal),
         };
-        let more = (2 * buffer.len()).max(payload).min(most);
+        let more = (2 * buffer.len()).max(payload + ADDED).min(most);
         if more <= buffer.len() {
             return Err(refusal);
         }
@@ -97,4 +100,29 @@ pub fn element(payload: &[u8], k: usize) -> &[u8] {
 /// How many elements a payload has. Refusals 13, 15, 16, 17.
 pub fn elements(payload: &[u8]) -> Result<usize, Refusal> {
     lent::element(payload, 0).map(|place| place.elements)
+}
+
+#[cfg(test)]
+mod tests {
+    use super::*;
+
+    /// Store and output have room for what came, and not for what the limits allow.
+    #[test]
+    fn room_follows_need() {
+        let mut receiver = Receiver::new();
+        let mut number = 0;
+        let mut given = |head: &[u8], bytes: usize| {
+            receiver.receive(number, &[head, &vec![7; bytes]].concat()).unwrap();
+            number += 1;
+            (receiver.store.len(), receiver.out.len())
+        };
+        assert_eq!(given(&[0x10, 0x30], 1198), (0, 1200 + ADDED));
+        assert_eq!(given(&[0x50, 0x30], 1198), (1200 + ADDED, 1200 + ADDED));
+        let (store, out) = given(&[0xD0], 1199);
+        assert!(store < 4 * 1200 && out < 2 * 1200);
+        let (store, out) = given(&[0x90], 1199);
+        assert!(store < 4 * 1200 && out < 6 * 1200);
+        assert_eq!(given(&[0x10, 0x30], PAYLOAD_LIMIT - 2).1, PAYLOAD_LIMIT + ADDED);
+        assert!(given(&[0x10, 0x30], 1198).0 < 4 * 1200);
+    }
 }

@@ -30,7 +30,7 @@ macro_rules! reasons {
 }
 
 reasons! {
-    1 MtuOverLimit "the mtu is above 65,533"
+    1 MtuOverLimit "the mtu is above 1,048,576"
     2 UnitOverLimit "the unit is longer than 1,048,576 bytes"
     3 ExtensionMissing "an OBU has the extension bit set and no second header byte"
     4 SizeMissing "an OBU has the size bit set and no byte after its header"
@@ -42,7 +42,7 @@ reasons! {
     10 NoRoomForPayloads "the output is shorter than the packets asked for"
     11 NoUsablePacket "there is no such packet, or, for its header, its record has no element, OBUs beyond the list or an end past 4,294,967,295, or an OBU record lies outside the unit"
     12 StateImpossible "the open length is above the store's length or its limit"
-    13 PayloadLength "the payload is empty or longer than 65,533 bytes"
+    13 PayloadLength "the payload is empty, longer than 1,048,576 bytes, or longer than its train can state"
     14 NotAhead "the number is not ahead of the last one taken"
     15 NewWithContinuation "N and Z are both set"
     16 ElementLengthBad "an element's length field is bad or missing"
@@ -50,7 +50,7 @@ reasons! {
     18 ObuBroken "a finished OBU lacks a header byte, or its size field does not cover exactly the rest"
     19 FragmentTooLong "the open fragment would be longer than the store or its limit"
     20 NoRoomForObus "the output is too short for the OBUs of this packet"
-    21 TrainVersion "the train is empty or of another version"
+    21 TrainVersion "the train is empty, or of a version other than 1 and 2"
     22 TrainCut "the train ends inside a record"
     23 RecordTooShort "a train record states a length below 3"
     31 ListsDiffer "the list or the plan is not the one that this unit and mtu give"

@@ -1,10 +1,14 @@
 //! The train file: a version byte, and then the packets of one run with their numbers.
 //!
+//! Version 1 states lengths in 16 bits, version 2 in 32 bits. Both are read. A writer chooses by its mtu, so that a train of version 2,
+//! which an older reader refuses (21), is only written for packets that version 1 may have no room for.
+//!
 //! A number counts within its train only. Trains are never joined, and each is given to a [`Receiver`](crate::Receiver) of its own.
-use crate::{lent, Reason, Refusal, PAYLOAD_LIMIT};
+use crate::lent::{self, TrainHead};
+use crate::{Reason, Refusal, PAYLOAD_LIMIT};
 
-/// The version byte that a train begins with.
-pub const VERSION: u8 = 1;
+/// The most bytes of a payload in a train of version 1. A train whose mtu is above this is of version 2.
+pub const SHORT_PAYLOAD: usize = 65_533;
 
 /// A packet of a train.
 #[derive(Clone, Copy, Debug, PartialEq, Eq)]
@@ -19,8 +23,9 @@ pub struct Packet<'a> {
 ///
 /// ```
 /// use av1rtp::train::{Packets, Writer};
-/// let mut train = Writer::new(65535);
-/// for payload in &av1rtp::payload(&[0x0A, 0x01, 0x7F], 3).unwrap() {
+/// let mtu = 3;
+/// let mut train = Writer::new(mtu, 65535);
+/// for payload in &av1rtp::payload(&[0x0A, 0x01, 0x7F], mtu).unwrap() {
 ///     train.push(payload).unwrap();
 /// }
 /// let train = train.into_bytes();
@@ -28,7 +33,9 @@ pub struct Packet<'a> {
 ///
 /// let mut receiver = av1rtp::Receiver::new();
 /// let mut obus = Vec::new();
-/// for packet in Packets::new(&train).unwrap() {
+/// let packets = Packets::new(&train).unwrap();
+/// assert_eq!(packets.version(), 1);
+/// for packet in packets {
 ///     let packet = packet.unwrap();
 ///     obus.extend_from_slice(receiver.receive(packet.number, packet.payload).unwrap());
 /// }
@@ -37,15 +44,21 @@ pub struct Packet<'a> {
 #[derive(Clone, Debug)]
 pub struct Packets<'a> {
     train: &'a [u8],
+    head: TrainHead,
     at: usize,
     over: bool,
 }
 
 impl<'a> Packets<'a> {
-    /// The packets of this train. Refusal 21.
+    /// The packets of this train, of either version. Refusal 21.
     pub fn new(train: &'a [u8]) -> Result<Packets<'a>, Refusal> {
-        lent::train_head(train)?;
-        Ok(Packets { train, at: 1, over: false })
+        let head = lent::train_head(train)?;
+        Ok(Packets { train, head, at: 1, over: false })
+    }
+
+    /// The version of the train, 1 or 2.
+    pub fn version(&self) -> u8 {
+        self.head.version
     }
 }
 
@@ -56,7 +69,7 @@ impl<'a> Iterator for Packets<'a> {
         if self.over {
             return None;
         }
-        match lent::train_record(self.train, self.at).transpose()? {
+        match lent::train_record(self.train, self.head.width, self.at).transpose()? {
             Ok(record) => {
                 self.at = record.start + record.length;
                 Some(Ok(Packet { number: record.number, payload: &self.train[record.start..self.at] }))
@@ -72,29 +85,51 @@ impl<'a> Iterator for Packets<'a> {
 impl std::iter::FusedIterator for Packets<'_> {}
 
 /// Writes a train, and numbers its packets in one run, modulo 65,536.
+///
+/// ```
+/// use av1rtp::train::Writer;
+/// let mut train = Writer::new(1_048_576, 7); // an mtu above SHORT_PAYLOAD: version 2
+/// train.push(&[0x10, 0x30]).unwrap();
+/// assert_eq!((train.version(), train.as_bytes()), (2, &[2, 0, 0, 0, 4, 0, 7, 0x10, 0x30][..]));
+/// ```
 #[derive(Clone, Debug)]
 pub struct Writer {
     bytes: Vec<u8>,
+    head: TrainHead,
     next: u16,
 }
 
 impl Writer {
-    /// A train of no packets yet; the first will have this number.
-    pub fn new(first: u16) -> Writer {
-        Writer { bytes: vec![VERSION], next: first }
+    /// A train of no packets yet, for packets of at most `mtu` bytes; the first will have this number. The train is of version 2 exactly if
+    /// the mtu is above [`SHORT_PAYLOAD`], and else of version 1.
+    pub fn new(mtu: usize, first: u16) -> Writer {
+        let head = if mtu > SHORT_PAYLOAD {
+            TrainHead { version: 2, width: 4 }
+        } else {
+            TrainHead { version: 1, width: 2 }
+        };
+        Writer { bytes: vec![head.version], head, next: first }
     }
 
-    /// Adds a packet, and gives its number. A payload that no receiver takes, empty or longer than 65,533 bytes, is refused (13).
+    /// Adds a packet, and gives its number. Refused (13) is a payload that no receiver takes, empty or longer than [`PAYLOAD_LIMIT`], and
+    /// in a train of version 1 one longer than [`SHORT_PAYLOAD`]; the mtu itself is not looked at.
     pub fn push(&mut self, payload: &[u8]) -> Result<u16, Refusal> {
-        if payload.is_empty() || payload.len() > PAYLOAD_LIMIT {
+        let longest = if self.head.version == 1 { SHORT_PAYLOAD } else { PAYLOAD_LIMIT };
+        if payload.is_empty() || payload.len() > longest {
             return Err(Refusal::new(Reason::PayloadLength, 0));
         }
-        let number = self.next;
-        let head = lent::train_record_head(payload.len() as u16 + 2, number);
-        self.bytes.extend_from_slice(&head);
+        let (number, width) = (self.next, self.head.width);
+        let mut head = [0; 6];
+        lent::train_record_head(payload.len() as u32 + 2, number, width, &mut head);
+        self.bytes.extend_from_slice(&head[..width + 2]);
         self.bytes.extend_from_slice(payload);
         self.next = number.wrapping_add(1);
         Ok(number)
+    }
+
+    /// The version of the train, 1 or 2.
+    pub fn version(&self) -> u8 {
+        self.head.version
     }
 
     /// The number of the next packet.

@@ -35,9 +35,13 @@ static void lists_and_headers(void) {
     EXPECT(av1rtp_list(broken, sizeof broken, obus, 10, answer) == AV1RTP_PAYLOAD_PAST_UNIT && words(answer, 2, 0, 0, 0));
     EXPECT(av1rtp_plan(5, unit, sizeof unit, obus, 10, plan, 12, answer) == 0 && words(answer, 0, 2, 2, 0));
     EXPECT(memcmp(plan, packets, sizeof packets) == 0);
-    EXPECT(av1rtp_plan(65534, unit, sizeof unit, obus, 10, plan, 12, answer) == AV1RTP_MTU_OVER_LIMIT);
+    EXPECT(av1rtp_plan(1048577, unit, sizeof unit, obus, 10, plan, 12, answer) == AV1RTP_MTU_OVER_LIMIT);
+    EXPECT(av1rtp_plan(SIZE_MAX, unit, sizeof unit, obus, 10, plan, 12, answer) == AV1RTP_MTU_OVER_LIMIT);
+    EXPECT(av1rtp_plan(1048576, unit, sizeof unit, obus, 10, plan, 12, answer) == 0 && words(answer, 0, 2, 1, 0));
+    EXPECT(av1rtp_plan(65534, unit, sizeof unit, obus, 10, plan, 12, answer) == 0 && words(answer, 0, 2, 1, 0));
     EXPECT(av1rtp_plan(5, unit, sizeof unit, obus, 9, plan, 12, answer) == AV1RTP_OBU_LIST_FULL && words(answer, 3, 0, 0, 0));
     EXPECT(av1rtp_plan(5, unit, sizeof unit, obus, 10, plan, 11, answer) == AV1RTP_PLAN_LIST_FULL && words(answer, 0, 0, 0, 0));
+    EXPECT(av1rtp_plan(5, unit, sizeof unit, obus, 10, plan, 12, answer) == 0 && words(answer, 0, 2, 2, 0));
     EXPECT(av1rtp_header(unit, sizeof unit, obus, 10, plan, 12, 1, answer) == 0 && words(answer, 0, 0x10, 0, 0));
     EXPECT(av1rtp_header(unit, sizeof unit, obus, 10, plan, 12, 2, answer) == AV1RTP_NO_USABLE_PACKET);
     EXPECT(av1rtp_header(unit, sizeof unit, obus, 10, at_limit, 6, 0, answer) == 0 && words(answer, 0, 0x10, 0, 0));
@@ -284,17 +288,101 @@ static void receiving(void) {
     EXPECT(av1rtp_element(two, 0, 0, answer) == AV1RTP_PAYLOAD_LENGTH && words(answer, 0, 0, 0, 0));
 }
 
-static void trains_and_size_fields(void) {
-    static const uint8_t train[] = {1, 0, 4, 0xFF, 0xFE, 0x10, 0x30, 0, 1}, field[] = {0xAC, 0x02};
-    uint8_t head[4];
-    EXPECT(av1rtp_train_head(train, sizeof train, answer) == 0 && words(answer, 0, 1, 0, 0));
-    EXPECT(av1rtp_train_head(train, 0, answer) == AV1RTP_TRAIN_VERSION);
-    EXPECT(av1rtp_train_record(train, sizeof train, 1, answer) == 0 && words(answer, 0, 65534, 5, 2));
-    EXPECT(av1rtp_train_record(train, sizeof train, 7, answer) == AV1RTP_RECORD_TOO_SHORT);
-    EXPECT(av1rtp_train_record(train, 6, 1, answer) == AV1RTP_TRAIN_CUT);
-    EXPECT(av1rtp_train_record(train, 7, 7, answer) == 0 && words(answer, 0, 0, 0, 0));
-    av1rtp_train_record_head(4, 65534, head);
-    EXPECT(memcmp(head, train + 1, 4) == 0);
+/* A payload of the greatest length and one byte more. */
+static void longest_payload(void) {
+    static uint8_t payload[AV1RTP_PAYLOAD_LIMIT + 1], obus[AV1RTP_PAYLOAD_LIMIT + 3];
+    size_t state[AV1RTP_STATE_WORDS] = {0, 0, 0};
+    uint8_t store[1];
+    payload[0] = 0x10;
+    payload[1] = 0x30;
+    EXPECT(av1rtp_element(payload, sizeof payload, 0, answer) == AV1RTP_PAYLOAD_LENGTH && words(answer, 0, 0, 0, 0));
+    EXPECT(av1rtp_element(payload, 1048576, 0, answer) == 0 && words(answer, 0, 1, 1, 1048575));
+    EXPECT(av1rtp_receive(state, 7, payload, sizeof payload, store, 1, obus, sizeof obus, answer) == AV1RTP_PAYLOAD_LENGTH);
+    EXPECT(words(answer, 0, 0, 0, 0) && state[0] == 0 && state[1] == 0 && state[2] == 0);
+    EXPECT(av1rtp_receive(state, 7, payload, 1048576, store, 1, obus, 1048577, answer) == AV1RTP_NO_ROOM_FOR_OBUS);
+    EXPECT(av1rtp_receive(state, 7, payload, 1048576, store, 1, obus, 1048578, answer) == 0 && words(answer, 0, 1048578, 0, 0));
+    EXPECT(obus[0] == 0x32 && obus[1] == 0xFE && obus[2] == 0xFF && obus[3] == 0x3F && state[0] == 1 && state[1] == 7 && state[2] == 0);
+}
+
+/* Every width but 4 counts as 2. */
+static const size_t widths[] = {2, 4, 0, 1, 3, 5, 6, 8, 65536, 65540, SIZE_MAX};
+
+static size_t counted(size_t width) {
+    return width == 4 ? 4 : 2;
+}
+
+static void heads(void) {
+    static const uint8_t versions[] = {1, 2, 0, 3, 4, 255};
+    for (size_t i = 0; i < sizeof versions; i++) {
+        uint8_t train[] = {versions[i], 0, 0};
+        for (size_t length = 1; length <= sizeof train; length++) {
+            if (i < 2) {
+                EXPECT(av1rtp_train_head(train, length, answer) == 0 && words(answer, 0, versions[i], i == 0 ? 2 : 4, 0));
+            } else {
+                EXPECT(av1rtp_train_head(train, length, answer) == AV1RTP_TRAIN_VERSION && words(answer, 0, 0, 0, 0));
+            }
+        }
+        EXPECT(av1rtp_train_head(train, 0, answer) == AV1RTP_TRAIN_VERSION && words(answer, 0, 0, 0, 0));
+    }
+}
+
+/* A good record and then one whose length is too small, in both widths: each cut everywhere, and asked for past the end. */
+static void records_of_trains(void) {
+    static const uint8_t two[] = {1, 0, 4, 0xFF, 0xFE, 0x10, 0x30, 0, 2, 0, 0};
+    static const uint8_t four[] = {2, 0, 0, 0, 4, 0xFF, 0xFE, 0x10, 0x30, 0, 0, 0, 2, 0, 0};
+    for (size_t i = 0; i < sizeof widths / sizeof widths[0]; i++) {
+        size_t width = widths[i], start = 1 + counted(width) + 2, end = start + 2;
+        const uint8_t *train = width == 4 ? four : two;
+        size_t length = width == 4 ? sizeof four : sizeof two;
+        for (size_t cut = 0; cut <= length; cut++) {
+            uint32_t number = av1rtp_train_record(train, cut, width, 1, answer);
+            if (cut <= 1) {
+                EXPECT(number == 0 && words(answer, 0, 0, 0, 0));
+            } else if (cut < end) {
+                EXPECT(number == AV1RTP_TRAIN_CUT && words(answer, 0, 0, 0, 0));
+            } else {
+                EXPECT(number == 0 && words(answer, 0, 65534, start, 2));
+            }
+            number = av1rtp_train_record(train, cut, width, end, answer);
+            EXPECT(number == (cut <= end ? 0 : cut < end + counted(width) ? AV1RTP_TRAIN_CUT : AV1RTP_RECORD_TOO_SHORT));
+            EXPECT(words(answer, 0, 0, 0, 0));
+            for (size_t past = 0; past < 3; past++) {
+                EXPECT(av1rtp_train_record(train, cut, width, cut + past, answer) == 0 && words(answer, 0, 0, 0, 0));
+            }
+            EXPECT(av1rtp_train_record(train, cut, width, SIZE_MAX, answer) == 0 && words(answer, 0, 0, 0, 0));
+        }
+    }
+    /* the greatest length stated, and one with high bytes set */
+    static const uint8_t greatest[] = {2, 0xFF, 0xFF, 0xFF, 0xFF, 0, 0, 0x10, 0x30}, high[] = {2, 1, 0, 0, 4, 0, 0, 0x10, 0x30};
+    EXPECT(av1rtp_train_record(greatest, sizeof greatest, 4, 1, answer) == AV1RTP_TRAIN_CUT);
+    EXPECT(av1rtp_train_record(high, sizeof high, 4, 1, answer) == AV1RTP_TRAIN_CUT);
+    /* a payload that version 1 has no room for */
+    static uint8_t record[7 + AV1RTP_SHORT_PAYLOAD + 1] = {2};
+    av1rtp_train_record_head(AV1RTP_SHORT_PAYLOAD + 3, 9, 4, record + 1);
+    EXPECT(av1rtp_train_record(record, sizeof record, 4, 1, answer) == 0 && words(answer, 0, 9, 7, AV1RTP_SHORT_PAYLOAD + 1));
+    EXPECT(av1rtp_train_record(record, sizeof record - 1, 4, 1, answer) == AV1RTP_TRAIN_CUT);
+}
+
+/* The bytes of both fields, and those behind them, which stay. */
+static void record_heads(void) {
+    static const uint32_t stateds[] = {0, 1, 2, 3, 4, 0x1234, 0xFFFF, 0x10000, 0x12345678, 0xFFFFFFFF};
+    for (size_t i = 0; i < sizeof stateds / sizeof stateds[0]; i++) {
+        for (size_t j = 0; j < sizeof widths / sizeof widths[0]; j++) {
+            uint8_t head[] = {OLD, OLD, OLD, OLD, OLD, OLD}, wanted[] = {OLD, OLD, OLD, OLD, OLD, OLD};
+            size_t at = 0, width = counted(widths[j]);
+            for (size_t k = width; k-- > 0;) {
+                wanted[at++] = (uint8_t)(stateds[i] >> 8 * k);
+            }
+            wanted[at++] = 0xAB;
+            wanted[at++] = 0xCD;
+            av1rtp_train_record_head(stateds[i], 0xABCD, widths[j], head);
+            EXPECT(at == width + 2 && memcmp(head, wanted, sizeof head) == 0);
+        }
+    }
+}
+
+static void size_fields(void) {
+    static const uint8_t field[] = {0xAC, 0x02};
     EXPECT(av1rtp_size_field(field, 2, answer) == 0 && words(answer, 0, 300, 2, 0));
     EXPECT(av1rtp_size_field(field, 1, answer) == AV1RTP_SIZE_UNFINISHED);
 }
@@ -306,7 +394,11 @@ int main(void) {
     packets_and_room();
     packets_in_reverse();
     receiving();
-    trains_and_size_fields();
+    longest_payload();
+    heads();
+    records_of_trains();
+    record_heads();
+    size_fields();
     if (!failed) {
         printf("header.c: ok\n");
     }

@@ -13,9 +13,10 @@ use Rattle.payloader.specs.declared.Written.{Written}
 use Rattle.receiver.specs.Joining.{fresh}
 use Rattle.receiver.specs.Call.{stateOf}
 use Rattle.receiver.specs.declared.State.{State}
+use Rattle.train.specs.declared.TrainHead.{TrainHead}
 use Rattle.train.specs.declared.RecordHead.{RecordHead}
 use Rattle.av1rtp.specs.Words.{numberIn, wordsIn, Named}
-use Rattle.av1rtp.specs.Calls.{one, plannedWords, writtenWords, fieldWords, recordWords, stateIn, stateWords}
+use Rattle.av1rtp.specs.Calls.{one, plannedWords, writtenWords, fieldWords, headWords, recordWords, stateIn, stateWords}
 
 -- ---- answers
 
@@ -47,6 +48,12 @@ field-apart a b e =
     let o : a .value ≡ b .value = cc in
     let p : a .used ≡ b .used = cc in
     ap₂ (λ (n m : ℕ). record { value = n; used = m }) o p
+
+pub head-apart : (a b : TrainHead) → headWords a ≡ headWords b → a ≡ b
+head-apart a b e =
+    let o : a .version ≡ b .version = cc in
+    let p : a .width ≡ b .width = cc in
+    ap₂ (λ (n m : ℕ). record { version = n; width = m }) o p
 
 pub record-apart : (a b : RecordHead) → recordWords a ≡ recordWords b → a ≡ b
 record-apart a b e =

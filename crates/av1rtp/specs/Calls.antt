@@ -24,7 +24,7 @@ use Rattle.train.specs.declared.TrainHead.{TrainHead}
 use Rattle.train.specs.declared.RecordHead.{RecordHead}
 use Rattle.av1rtp.specs.Words.{numberIn, wordsIn}
 
--- one number: a header byte, a version
+-- one number: a header byte, a count of bytes
 abbrev pub one : ℕ → List ℕ
 one n = n ∷ 0 ∷ 0 ∷ []
 
@@ -90,10 +90,10 @@ pub record Crosses (x : After (Answer Received)) (words : List ℕ) (r : ℕ) (a
   pub store-is : store ≡ x .store
   pub output-is : output ≡ x .output
 
--- ---- a train's head: its version; the width that it tells does not cross
+-- ---- a train's head: its version, and the width that it tells
 
 abbrev pub headWords : TrainHead → List ℕ
-headWords h = one (h .version)
+headWords h = h .version ∷ h .width ∷ 0 ∷ []
 
 -- ---- a train's record: the end is the record of no payload, which no record is (L11)
 

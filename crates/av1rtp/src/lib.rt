@@ -24,7 +24,8 @@ ghost use Rattle.aggregation.specs.Header.{headerOf};
 ghost use Rattle.payloader.specs.Call.{toWrite, writePacket, writePackets};
 ghost use Rattle.element.specs.Elements.{payloadElements, elementOf};
 ghost use Rattle.receiver.specs.Call.{inputs, received};
-ghost use Rattle.train.specs.Train.{lengthWidth, headOf, frontOf, recordFields};
+ghost use Rattle.base.specs.Lists.{front};
+ghost use Rattle.train.specs.Train.{headOf, countedWidth, frontOf, recordFields};
 ghost use Rattle.av1rtp.specs.Words.{numberIn, wordsIn};
 ghost use Rattle.av1rtp.specs.Calls.{one, listedWords, PlanCrosses, WriteCrosses, fieldAnswer, fieldWords, elementCount, stateIn, stateWords, Crosses, headWords, recordAnswer, recordWords};
 
@@ -192,37 +193,48 @@ pub extern "C" fn av1rtp_receive(
     }
 }
 
-// The head of a train. Words: 0, its version.
+// The head of a train. Words: 0, its version, the width of its length fields.
 #[no_mangle]
 pub extern "C" fn av1rtp_train_head(bytes: &[u8], answer: &mut [usize; 4]) -> u32
     ensures { λ r. ⌜ (r ≡ numberIn (headOf (now (bytes .entry)))) × (now (answer .exit) ≡ wordsIn headWords (headOf (now (bytes .entry)))) ⌝ }
 {
     match train::read_head(bytes) {
-        HeadRead::Train(head) => give(answer, head.version as usize, 0, 0),
+        HeadRead::Train(head) => give(answer, head.version as usize, head.width, 0),
         HeadRead::Refused(refusal) => refuse(answer, refusal, 0),
     }
 }
 
-// The record of a train that begins at `at`. Words: 0, its number, where its payload starts, the payload's length; all 0 at the end.
+// The record of a train with length fields of this width that begins at `at`. Words: 0, its number, where its payload starts, the
+// payload's length; all 0 at the end, and past it.
 #[no_mangle]
-pub extern "C" fn av1rtp_train_record(bytes: &[u8], at: usize, answer: &mut [usize; 4]) -> u32
-    ensures { λ r. ⌜ (r ≡ numberIn (recordAnswer (frontOf lengthWidth at (drop at (now (bytes .entry))))))
-        × (now (answer .exit) ≡ wordsIn recordWords (recordAnswer (frontOf lengthWidth at (drop at (now (bytes .entry)))))) ⌝ }
+pub extern "C" fn av1rtp_train_record(
+    bytes: &[u8],
+    width: usize,
+    at: usize,
+    answer: &mut [usize; 4],
+) -> u32
+    ensures { λ r. ⌜ (r ≡ numberIn (recordAnswer (frontOf (countedWidth width) at (drop at (now (bytes .entry))))))
+        × (now (answer .exit) ≡ wordsIn recordWords (recordAnswer (frontOf (countedWidth width) at (drop at (now (bytes .entry)))))) ⌝ }
 {
-    match train::read_record(bytes, train::LENGTH_WIDTH, at) {
+    match train::read_record(bytes, width, at) {
         RecordRead::Found(head) => give(answer, head.number as usize, head.start, head.length),
         RecordRead::End => give(answer, 0, 0, 0),
         RecordRead::Refused(refusal) => refuse(answer, refusal, 0),
     }
 }
 
-// The four bytes that stand before a payload: the stated length, which counts the number's two bytes, and the number. Any length is
-// written, 0 to 2 too, though no reader takes such a record (R23).
+// What stands before a payload, with a length field of this width: the stated length, which counts the number's two bytes, and the
+// number. The bytes after them stay. Any length is written, 0 to 2 too, though no reader takes such a record (R23).
 #[no_mangle]
-pub extern "C" fn av1rtp_train_record_head(stated: u16, number: u16, head: &mut [u8; 4])
-    ensures { λ _. ⌜ now (head .exit) ≡ recordFields lengthWidth stated number ⌝ }
+pub extern "C" fn av1rtp_train_record_head(
+    stated: u32,
+    number: u16,
+    width: usize,
+    head: &mut [u8; 6],
+)
+    ensures { λ _. ⌜ now (head .exit) ≡ front (recordFields (countedWidth width) stated number) (now (head .entry)) ⌝ }
 {
-    *head = train::record_head(stated, number);
+    train::record_head(stated, number, width, head);
 }
 
 // The size field at the front of some bytes. Words: 0, its value, the bytes that it takes.

@@ -52,8 +52,8 @@ receipt = answers.receipt-one
 pub head-read : TellsApart train.paperHead
 head-read = answers.head-one
 
-pub length-read : TellsApart train.paperLength
-length-read = answers.stated-one
+pub fields-read : TellsApart train.paperFields
+fields-read = answers.fields-one
 
 pub record-read : TellsApart train.paperRecord
 record-read = answers.found-one

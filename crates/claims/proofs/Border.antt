@@ -23,6 +23,9 @@ written-words = laws.written-apart
 pub field-words : TellsApart border.fieldWords
 field-words = laws.field-apart
 
+pub head-words : TellsApart border.headWords
+head-words = laws.head-apart
+
 pub record-words : TellsApart border.recordWords
 record-words = laws.record-apart
 

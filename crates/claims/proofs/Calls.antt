@@ -13,7 +13,8 @@ use Rattle.element.proofs.walk_elements as walkElements
 use Rattle.element.proofs.element as element
 use Rattle.receiver.proofs.receive as receive
 use Rattle.train.proofs.read_head as readHead
-use Rattle.train.proofs.read_length as readLength
+use Rattle.train.proofs.head_for as headFor
+use Rattle.train.proofs.read_fields as readFields
 use Rattle.train.proofs.read_record as readRecord
 use Rattle.train.proofs.record_head as recordHead
 use Rattle.packing.proofs.start as packStart
@@ -60,8 +61,11 @@ received = calls.received
 pub read-head : Settled readHead.ended (λ M. readHead.clauses)
 read-head = calls.read-head
 
-pub read-length : Settled readLength.ended (λ M. readLength.clauses)
-read-length = calls.read-length
+pub head-for : Settled headFor.ended (λ M. headFor.clauses)
+head-for = calls.head-for
+
+pub read-fields : Settled readFields.ended (λ M. readFields.clauses)
+read-fields = calls.read-fields
 
 pub read-record : Settled readRecord.ended (λ M. readRecord.clauses)
 read-record = calls.read-record

@@ -18,6 +18,7 @@ pub mod Places
 pub mod UnitsTheorem
 pub mod UnitsInstance
 pub mod Turns
+pub mod Packed
 pub mod RoundTrip
 pub mod Trains
 pub mod Fused

@@ -1,6 +1,6 @@
 -- An accepted unit's payloads carry a lawful train (design of D3: ours is a case). Assumes nothing.
 use mathlib.Core.Path.{_≡_, refl, sym, ap, subst, _∙_}
-use Prim.Native.Nat.{ℕ, zero, suc, _+_, _-_, _≤_, _<_}
+use Prim.Native.Nat.{ℕ, zero, suc, _+_, _-_, _*_, _≤_, _<_}
 use native.Mathlib.Omega.{arith}
 use mathlib.Core.List.{List, [], _∷_, map, flatMap}
 use mathlib.Core.Bool.{Bool, true, false, not}
@@ -17,11 +17,13 @@ use Rattle.obu.specs.Wire.{wholeOf, handedOut, wire, wireOf}
 use Rattle.obu.specs.Records.{noObu}
 use Rattle.obu.specs.declared.Obu.{Obu}
 use Rattle.obu.proofs.Theorems.{wire-sent}
+use Rattle.packetizer.specs.Elements.{totalSize}
 use Rattle.packetizer.specs.Call.{mtuLimit, sizesOf, unitPlan, toPlan, planAnswer}
 use Rattle.packetizer.specs.Laws.{position, Runs}
 use Rattle.packetizer.specs.declared.Planned.{Planned}
 use Rattle.packetizer.proofs.Accepted as planned
 use Rattle.packetizer.proofs.Laws.{plan-runs}
+use Rattle.packetizer.proofs.Totals.{packet-most}
 use Rattle.packetizer.proofs.UnitLaws.{unit-positive}
 use Rattle.payloader.specs.Payload.{payloadsOf}
 use Rattle.handing.specs.Handing.{wires}
@@ -37,7 +39,7 @@ use Rattle.delivery.proofs.UnitObus.{unit-through}
 
 -- ---- an accepted unit and its mtu are within their limits
 
-planned-given : (a : Answer Planned) → Given a → (p : Planned) × (given p ≡ a)
+pub planned-given : (a : Answer Planned) → Given a → (p : Planned) × (given p ≡ a)
 planned-given (given p) g = (p, refl)
 planned-given (refused n at) g = absurd g
 
@@ -118,7 +120,13 @@ module _ (s : Sending) (h : Accepted s) where
   train-carried = rw train-run (unit-carries unit (unit-positive unit) (s .mtu) 0 (position 0 0) (position (length (sizesOf unit)) 0) (unitPlan (s .mtu) unit) (within-limits s h .1) (h .0) (λ z. refl) runs)
 
   pub train-short : All (λ (x : List ℕ). length x ≤ s .mtu) (payloadsOf (s .mtu) unit)
-  train-short = unit-short unit (unit-positive unit) (s .mtu) 0 (position 0 0) (position (length (sizesOf unit)) 0) (unitPlan (s .mtu) unit) (h .0) runs
+  train-short =
+      unit-short unit (unit-positive unit) (s .mtu) (s .mtu) (λ p r. omega (arith, r .most, h .0)) 0 (position 0 0) (position (length (sizesOf unit)) 0) (unitPlan (s .mtu) unit) runs
+
+  -- whatever the mtu
+  pub train-within : All (λ (x : List ℕ). length x ≤ totalSize (sizesOf unit) + 5 * length (sizesOf unit) + 1) (payloadsOf (s .mtu) unit)
+  train-within =
+      unit-short unit (unit-positive unit) (s .mtu) _ (λ p r. omega (arith, packet-most (s .mtu - 1) (sizesOf unit) (unit-positive unit) p r)) 0 (position 0 0) (position (length (sizesOf unit)) 0) (unitPlan (s .mtu) unit) runs
 
   -- the OBUs all of whose packets pass a test, where the train's first packet is packet k of the run
   pub train-through : (test : ℕ → Bool) (k : ℕ) → map join (keep (whole test) (obus k [] (trainOf s))) ≡ map (sentAt unit) (wholeObus test k s)

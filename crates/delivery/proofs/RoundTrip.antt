@@ -1,22 +1,19 @@
 -- `unpack` after `pack` gives all kept OBUs back (G2 to G5). Assumes nothing.
---     units-good    the units that `pack` packs are accepted, and within its store
 --     all-go        what one packet finishes has room in `unpack`'s output
 --     round-trip    the theorem
 use mathlib.Core.Path.{_≡_, refl, sym, ap, ap₂, subst, _∙_}
 use Prim.Native.Nat.{ℕ, _+_, _*_, _/_, _≤_, _<_}
 use native.Mathlib.Omega.{arith}
 use mathlib.Core.List.{List, [], _∷_, _++_, append-assoc, append-nil, map, flatMap}
-use mathlib.Core.Bool.{not, _||_}
-use lib.ListN.{length, getD, take, drop, length-take, length-append, replicate, length-replicate}
-use lib.Dec.{ltb, eqb}
-use Rattle.base.specs.Answers.{Answer, given, refused, Given}
+use lib.ListN.{length, length-append, length-map, replicate, length-replicate}
+use lib.Dec.{ltb}
+use Rattle.base.specs.Numbers.{packetNumbers}
+use Rattle.base.specs.Answers.{Answer, given, Given}
 use Rattle.base.specs.BigEndian.{valueAt}
 use Rattle.base.specs.Lists.{All}
-use Rattle.base.specs.Streams.{Next}
 use Rattle.base.proofs.BigEndian.{value-below}
 use Rattle.base.proofs.Lists.{all-map, flatMap-append, flatMap-one, all-append, all-left, all-right, all-both, all-of-map}
 use Rattle.base.proofs.Tests.{by-cond}
-use Rattle.base.proofs.Streams.{Keeps, stream-all}
 use Rattle.obu.specs.Unit.{Placed, keptOf, obusOf}
 use Rattle.obu.specs.Wire.{wireOf}
 use Rattle.obu.specs.Laws.{Inside}
@@ -26,20 +23,21 @@ use Rattle.obu.proofs.Theorems.{kept-inside, wire-small}
 use Rattle.packetizer.specs.Plan.{leastMtu}
 use Rattle.packetizer.specs.Call.{mtuLimit}
 use Rattle.packetizer.specs.Records.{planNumbers}
-use Rattle.packetizer.specs.declared.Planned.{Planned}
+use Rattle.packetizer.proofs.Calls.{unit-total}
 use Rattle.payloader.specs.Payload.{payloadsOf}
-use Rattle.packing.specs.Pack.{packVersion, mtuWidth, headWidth, Head, found, headIn, unitStore, listRecords, unitWidth, nextNumber, numbered, numberAfter, answerIn, Length, over, stated, cut, lengthIn, PackEnd, ended as packEnded, unitBy, unitAfter, unitNext, unitsFrom, unitsBy, packetsOf, trainBy}
+use Rattle.packing.specs.Pack.{Version, known, other, versionWith, versionIn, mtuWidth, restWidth, Head, found, headAfter, headBy, headIn, behindHead, unitStore, listRecords, nextNumber, numbered, numberAfter, answerIn, unitsFrom, unitsBy, packetsOf, trainBy}
+use Rattle.packing.specs.declared.input.InputVersion.{InputVersion}
 use Rattle.packing.specs.declared.input.PackHead.{PackHead}
-use Rattle.packing.proofs.Reading.{stated-within}
-use Rattle.packing.proofs.Units.{answer-is}
-use Rattle.packing.proofs.Runs.{numbered-append, unit-some}
-use Rattle.train.specs.Train.{trainHead, numberWidth, Numbered, Records, ended, trainOf as trainFile, trainIn, standing}
+use Rattle.packing.proofs.Recording.{head-states}
+use Rattle.packing.proofs.Units.{answer-is, packed-few}
+use Rattle.packing.proofs.Runs.{numbered-append}
+use Rattle.train.specs.Train.{headFor, numberWidth, Numbered, Records, ended, trainOf as trainFile, trainIn, standing}
 use Rattle.train.specs.Laws.{AllFit}
 use Rattle.train.proofs.Written.{head-taken, written-read}
 use Rattle.receiver.specs.Joining.{fresh}
 use Rattle.receiver.specs.Call.{Taken}
 use Rattle.receiver.proofs.Laws.{holding-fresh}
-use Rattle.unpacking.specs.Unpack.{fragmentStore, outputBytes, writtenFor, unpackedFrom, unpackOf}
+use Rattle.unpacking.specs.Unpack.{payloadBytes, fragmentStore, outputBytes, writtenFor, unpackedFrom, unpackOf}
 use Rattle.lawful.specs.Train as lawful
 use Rattle.lawful.specs.Train.{packetsOfPieces}
 use Rattle.lawful.specs.Payload.{CarryAll}
@@ -48,37 +46,9 @@ use Rattle.delivery.specs.Calls.{takes, freshCalls, handedOut, verdicts}
 use Rattle.delivery.specs.Units.{Sending, Accepted, payloadsSent, sentFrom}
 use Rattle.delivery.specs.RoundTrip.{wireBytesOf, RoundTrip}
 use Rattle.delivery.proofs.Turns.{turns, heldThen, turns-append, unpacked-turns, Goes, turns-room, arriving, arriving-packets, arriving-outputs, turnCall, calls-turns, turns-out, turns-go}
-use Rattle.delivery.proofs.OneUnit.{within-limits, trainOf, train-carried, train-short}
+use Rattle.delivery.proofs.OneUnit.{planned-given, within-limits, trainOf, train-carried, train-short, train-within}
 use Rattle.delivery.proofs.UnitsTheorem.{units-no-loss}
-
--- ---- the units that are packed
-
--- a unit that the plan call plans with the space of `pack`, and that is within its store
-abbrev Good : ℕ → List ℕ → Type 0
-Good mtu u = Given (answerIn listRecords listRecords mtu u) × (length u ≤ unitStore)
-
--- nothing has to be known of the bytes that begin with it
-abbrev GoodNext : ℕ → List ℕ → Next (List ℕ) PackEnd ℕ → Type 0
-GoodNext mtu = Keeps (Good mtu) (λ i l. Unit {0})
-
-module _ (mtu : ℕ) where
-  with-unit : (i span : ℕ) (l u : List ℕ) (a : Answer Planned) → a ≡ answerIn listRecords listRecords mtu u → length u ≤ unitStore
-      → GoodNext mtu l (unitBy i span u a)
-  with-unit i span l u (given p) e s = ((subst Given e tt, s), tt)
-  with-unit i span l u (refused k at) e s = tt
-
-  with-length : (i : ℕ) (l : List ℕ) (x : Length) → x ≡ lengthIn l → GoodNext mtu l (unitAfter mtu i l x)
-  with-length i l over e = tt
-  with-length i l cut e = tt
-  with-length i l (stated s) e =
-      by-cond (GoodNext mtu l) (ltb (length (drop unitWidth l)) s) _ _ (λ t. tt)
-      (λ t.
-      with-unit i (unitWidth + s) l (take s (drop unitWidth l)) (answerIn listRecords listRecords mtu (take s (drop unitWidth l))) refl
-      (omega (arith, length-take s (drop unitWidth l), stated-within l s e)))
-
-  units-good : (i : ℕ) (l : List ℕ) → All (Good mtu) (unitsFrom mtu i l .items)
-  units-good i l =
-      stream-all (unitNext mtu) packEnded (unit-some mtu) (Good mtu) (λ j m. Unit {0}) (λ j m h q. with-length j m (lengthIn m) refl) l i tt
+use Rattle.delivery.proofs.Packed.{Good, units-good}
 
 -- ---- lists
 
@@ -225,37 +195,69 @@ carried-some (b ∷ bs) [] c = absurd c
 carried-some ([] ∷ bs) (p ∷ ps) c = absurd (c .0)
 carried-some ((h ∷ b) ∷ bs) (p ∷ ps) c = (omega arith, carried-some bs ps (c .1))
 
-sized : (ss : List Sending) → All Accepted ss → All (λ (b : List ℕ). (1 ≤ length b) × (length b ≤ mtuLimit)) (payloadsSent ss)
-unfolding flatMap
-sized [] h = tt
-sized (s ∷ ss) h =
-    all-append (λ (b : List ℕ). (1 ≤ length b) × (length b ≤ mtuLimit)) (payloadsOf (s .mtu) (s .unit)) (payloadsSent ss)
-    (all-both (λ (b : List ℕ). 1 ≤ length b) (λ (b : List ℕ). length b ≤ mtuLimit) (payloadsOf (s .mtu) (s .unit))
-    (carried-some (payloadsOf (s .mtu) (s .unit)) (packetsOfPieces (trainOf s)) (train-carried s (h .0)))
-    (all-map (λ (b : List ℕ) (m : length b ≤ s .mtu). omega (arith, m, within-limits s (h .0) .1)) (payloadsOf (s .mtu) (s .unit)) (train-short s (h .0))))
-    (sized ss (h .1))
+-- a payload of a unit that is packed: not empty, within mtu and limit, and within the store of `unpack`
+record Sized (mtu : ℕ) (b : List ℕ) : Type 0 where
+  pub some : 1 ≤ length b
+  pub most : length b ≤ mtu
+  pub limit : mtu ≤ mtuLimit
+  pub stored : length b ≤ payloadBytes
 
-all-fit : (n : ℕ) (ps : List (List ℕ)) → n < 65536 → All (λ (b : List ℕ). (1 ≤ length b) × (length b ≤ mtuLimit)) ps → AllFit (trainHead .width) (numbered n ps)
+module _ (mtu : ℕ) (least : leastMtu ≤ mtu) where
+  unit-sized : (u : List ℕ) → Good mtu u → All (Sized mtu) (payloadsOf mtu u)
+  unfolding sendings sending
+  unit-sized u g =
+      let s : Sending = sending mtu least u in
+      let h : Accepted s = accepted mtu least (u ∷ []) (g, tt) .0 in
+      let q = planned-given (answerIn listRecords listRecords mtu u) (g .0) in
+      let few = packed-few mtu u (q .0) (q .1) in
+      all-map (λ (b : List ℕ) x. record { some = x .0; most = x .1 .0; limit = within-limits s h .1; stored = omega (arith, x .1 .1, unit-total u, few .0, length-map (obusOf u) (λ (o : Obu). o .size), g .1) }) (payloadsOf mtu u)
+      (all-both _ _ (payloadsOf mtu u) (carried-some (payloadsOf mtu u) (packetsOfPieces (trainOf s)) (train-carried s h))
+      (all-both _ _ (payloadsOf mtu u) (train-short s h) (train-within s h)))
+
+  sized : (us : List (List ℕ)) → All (Good mtu) us → All (Sized mtu) (flatMap (payloadsOf mtu) us)
+  unfolding flatMap
+  sized [] g = tt
+  sized (u ∷ us) g = all-append (Sized mtu) (payloadsOf mtu u) (flatMap (payloadsOf mtu) us) (unit-sized u (g .0)) (sized us (g .1))
+
+-- their records can state them, and `unpack` has room for them
+all-fit : (mtu n : ℕ) (ps : List (List ℕ)) → n < packetNumbers → All (Sized mtu) ps → AllFit (headFor mtu .width) (numbered n ps)
 unfolding numbered
-all-fit n [] l h = tt
-all-fit n (p ∷ ps) l h = (record { numbered = l; some = h .0 .0; short = omega (arith, h .0 .1) }, all-fit (nextNumber n) ps (omega arith) (h .1))
+all-fit mtu n [] l h = tt
+all-fit mtu n (p ∷ ps) l h = (
+  record { numbered = l; some = h .0 .some; short = head-states mtu (length p) (h .0 .limit) (h .0 .most) },
+  all-fit mtu (nextNumber n) ps (omega arith) (h .1),
+)
+
+all-stored : (mtu n : ℕ) (ps : List (List ℕ)) → All (Sized mtu) ps → All (λ (p : Numbered). length (p .payload) ≤ payloadBytes) (numbered n ps)
+unfolding numbered
+all-stored mtu n [] h = tt
+all-stored mtu n (p ∷ ps) h = (h .0 .stored, all-stored mtu (nextNumber n) ps (h .1))
 
 -- ---- the theorem
 
-first-small : (l : List ℕ) → All (λ b. b < 256) l → (h : PackHead) → headIn l ≡ found h → h .first < 65536
-unfolding headIn
-first-small l b h e =
-    by-cond (λ (x : Head). x ≡ found h → h .first < 65536) (ltb (length l) headWidth || not (eqb (getD l 0 0) packVersion)) _ _
+first-after : (v : InputVersion) (l : List ℕ) → All (λ b. b < 256) l → (h : PackHead) → headAfter v l ≡ found h → h .first < packetNumbers
+unfolding headAfter
+first-after v l b h e =
+    by-cond (λ (x : Head). x ≡ found h → h .first < packetNumbers) (ltb (length l) (restWidth v)) _ _
     (λ t q. let z : _≡_ {A = ℕ} 0 1 = cc in absurd (omega arith))
     (λ t q.
-    let f : record { mtu = valueAt l 1 mtuWidth; first = valueAt l (1 + mtuWidth) numberWidth } ≡ h = cc in
-    subst (λ (n : ℕ). n < 65536) (ap (λ (x : PackHead). x .first) f) (value-below l (1 + mtuWidth) numberWidth b))
+    let f : record { mtu = valueAt l 0 (mtuWidth v); first = valueAt l (mtuWidth v) numberWidth } ≡ h = cc in
+    subst (λ (n : ℕ). n < packetNumbers) (ap (λ (x : PackHead). x .first) f) (value-below l (mtuWidth v) numberWidth b))
     e
+
+first-small : (l : List ℕ) → All (λ b. b < 256) l → (h : PackHead) → headIn l ≡ found h → h .first < packetNumbers
+unfolding versionIn
+first-small [] b h e = let z : _≡_ {A = ℕ} 0 1 = cc in absurd (omega arith)
+first-small (x ∷ l) b h e = go (versionWith x) e
+  where
+    go : (v : Version) → headBy l v ≡ found h → h .first < packetNumbers
+    go (known v) q = first-after v l (b .1) h q
+    go other q = let z : _≡_ {A = ℕ} 0 1 = cc in absurd (omega arith)
 
 unpacked : (file : List ℕ) (ps : List Numbered) → trainIn file ≡ given (record { items = ps; stop = ended }) → unpackOf file ≡ unpackedFrom fresh ps
 unpacked file ps e = ap (λ (t : Answer Records). unpackedFrom fresh (standing t)) e
 
-module _ (h : PackHead) (least : leastMtu ≤ h .mtu) (small : h .first < 65536) (us : List (List ℕ)) (good : All (Good (h .mtu)) us) where
+module _ (h : PackHead) (least : leastMtu ≤ h .mtu) (small : h .first < packetNumbers) (us : List (List ℕ)) (good : All (Good (h .mtu)) us) where
   numbers : number (h .first) 0 ≡ h .first
   numbers = omega arith
 
@@ -263,28 +265,25 @@ module _ (h : PackHead) (least : leastMtu ≤ h .mtu) (small : h .first < 65536)
   unfolding packets
   the-packets = ap₂ numbered numbers (sent-payloads (h .mtu) least us)
 
-  fit : AllFit (trainHead .width) (packets (h .mtu) least (h .first) us)
-  unfolding packets
-  fit = all-fit (number (h .first) 0) (payloadsSent (sendings (h .mtu) least us)) (omega arith) (sized (sendings (h .mtu) least us) (accepted (h .mtu) least us good))
-
   none : All (Goes outputBytes) (made (h .mtu) least (h .first) [])
   unfolding made packets sendings numbered turns flatMap
   none = tt
 
-  packed-unpacked : unpackOf (trainFile trainHead (packetsOf h us)) ≡ wireBytesOf us
+  packed-unpacked : unpackOf (trainFile (headFor (h .mtu)) (packetsOf h us)) ≡ wireBytesOf us
   unfolding made
   packed-unpacked =
-      unpacked (trainFile trainHead (packetsOf h us)) (packetsOf h us)
-      (written-read trainHead (packetsOf h us) head-taken
-      (subst (AllFit (trainHead .width)) the-packets fit))
-      ∙ sym (ap (unpackedFrom fresh) the-packets)
-      ∙ unpacked-turns fresh (packets (h .mtu) least (h .first) us)
+      let s = sized (h .mtu) least us good in
+      unpacked (trainFile (headFor (h .mtu)) (packetsOf h us)) (packetsOf h us)
+      (written-read (headFor (h .mtu)) (packetsOf h us) (head-taken (h .mtu)) (all-fit (h .mtu) (h .first) (flatMap (payloadsOf (h .mtu)) us) small s))
+      ∙ unpacked-turns fresh (packetsOf h us) (all-stored (h .mtu) (h .first) (flatMap (payloadsOf (h .mtu)) us) s)
+      ∙ sym (ap (λ (ps : List Numbered). flatMap writtenFor (turns fragmentStore outputBytes fresh ps)) the-packets)
       ∙ ap (flatMap writtenFor) (turns-room fragmentStore (room (h .mtu) least (h .first)) outputBytes fresh (packets (h .mtu) least (h .first) us) (all-go (h .mtu) least (h .first) us [] good none))
       ∙ made-of (h .mtu) least (h .first) us good .0
 
 pub round-trip : RoundTrip
 round-trip input h bytes e least =
-    let us : List (List ℕ) = unitsFrom (h .mtu) 0 (drop headWidth input) .items in
-    ap (λ (x : Head). unpackOf (trainBy (unitsBy (drop headWidth input) x .items) x)) e
-    ∙ packed-unpacked h least (first-small input bytes h e) us (units-good (h .mtu) 0 (drop headWidth input))
-    ∙ sym (ap (λ (x : Head). wireBytesOf (unitsBy (drop headWidth input) x .items)) e)
+    let l : List ℕ = behindHead input in
+    let us : List (List ℕ) = unitsFrom (h .mtu) 0 l .items in
+    ap (λ (x : Head). unpackOf (trainBy (unitsBy l x .items) x)) e
+    ∙ packed-unpacked h least (first-small input bytes h e) us (units-good (h .mtu) 0 l)
+    ∙ sym (ap (λ (x : Head). wireBytesOf (unitsBy l x .items)) e)

@@ -19,7 +19,7 @@ use Rattle.receiver.specs.Packet.{packetOf}
 use Rattle.receiver.specs.Joining.{Label, Held, ahead, out}
 use Rattle.receiver.specs.Call.{Incoming, Taken, tooLong, fitted, leadsTo, wired, opened, taken, stateOf, outcome, answering, after, answered}
 use Rattle.receiver.proofs.Laws.{Holding, inputsBy, outcome-holding, holding-next}
-use Rattle.unpacking.specs.Unpack.{fragmentStore, outputBytes, incoming, turn, heldAfter, writtenFor, unpackedFrom}
+use Rattle.unpacking.specs.Unpack.{payloadBytes, fragmentStore, outputBytes, incoming, heldAfter, writtenFor, unpackedFrom}
 use Rattle.delivery.specs.Arrivals.{number, inOrder}
 use Rattle.delivery.specs.Calls.{Arrival, arrivedPackets, Call, stateAfter, takes, Run, callBy, calls, handedOut, verdicts}
 
@@ -41,12 +41,14 @@ turns-append space room h (p ∷ ps) qs =
     let a : Answer Taken = taken space room h (incoming p) in
     ap (λ (l : List (Answer Taken)). a ∷ l) (turns-append space room (heldAfter h a) ps qs)
 
-pub unpacked-turns : (h : Held) (ps : List Numbered) → unpackedFrom h ps ≡ flatMap writtenFor (turns fragmentStore outputBytes h ps)
+-- where no payload is over the store of `unpack`
+pub unpacked-turns : (h : Held) (ps : List Numbered) → All (λ p. length (p .payload) ≤ payloadBytes) ps
+    → unpackedFrom h ps ≡ flatMap writtenFor (turns fragmentStore outputBytes h ps)
 unfolding turns unpackedFrom flatMap
-unpacked-turns h [] = refl
-unpacked-turns h (p ∷ ps) =
-    let a : Answer Taken = turn h p in
-    ap (λ (l : List ℕ). writtenFor a ++ l) (unpacked-turns (heldAfter h a) ps)
+unpacked-turns h [] s = refl
+unpacked-turns h (p ∷ ps) s =
+    let a : Answer Taken = taken fragmentStore outputBytes h (incoming p) in
+    rw (le-ltb payloadBytes (length (p .payload)) (s .0)) (ap (λ (l : List ℕ). writtenFor a ++ l) (unpacked-turns (heldAfter h a) ps (s .1)))
 
 -- ---- a shorter output does as well, if what goes out has room in it
 

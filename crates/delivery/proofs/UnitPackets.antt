@@ -1,6 +1,6 @@
 -- The payloads of a unit carry the run of packets that its plan describes (P13, P14, H1 to H5, Y1 to Y4). Assumes nothing.
 --     unit-carries   this
---     unit-short     no payload is longer than the mtu
+--     unit-short     no payload is longer than its record allows
 --     unit-chained   Z repeats the Y of the packet before
 --     unit-full      no element is empty
 --     unit-last      no OBU is open at the end
@@ -155,11 +155,12 @@ module _ (unit : List ℕ) (some : Positive (sizesOf unit)) (mtu : ℕ) where
     unit-carries (k + 1) (endsAt (sizesOf unit) p) b ps m l (λ z. absurd (omega arith)) (r .2),
   )
 
-  pub unit-short : (k : ℕ) (a b : Position) (ps : List PacketMetadata) → leastMtu ≤ mtu → Runs (mtu - 1) (sizesOf unit) a ps b
-      → All (λ (x : List ℕ). length x ≤ mtu) (payloadsFrom encode unit (obusOf unit) k ps)
+  pub unit-short : (most : ℕ) → ((p : PacketMetadata) → Sound (mtu - 1) (sizesOf unit) p → p .«packet_size» + 1 ≤ most)
+      → (k : ℕ) (a b : Position) (ps : List PacketMetadata) → Runs (mtu - 1) (sizesOf unit) a ps b
+      → All (λ (x : List ℕ). length x ≤ most) (payloadsFrom encode unit (obusOf unit) k ps)
   unfolding payloadsFrom payload flag
-  unit-short k a b [] l r = tt
-  unit-short k a b (p ∷ ps) l r = (omega (arith, long p (r .1), r .1 .most), unit-short (k + 1) (endsAt (sizesOf unit) p) b ps l (r .2))
+  unit-short most fits k a b [] r = tt
+  unit-short most fits k a b (p ∷ ps) r = (omega (arith, long p (r .1), fits p (r .1)), unit-short most fits (k + 1) (endsAt (sizesOf unit) p) b ps (r .2))
 
   pub unit-full : (a b : Position) (ps : List PacketMetadata) → Runs (mtu - 1) (sizesOf unit) a ps b → All (λ (q : Packet). All NonEmpty (q .elements)) (map (packetFor unit) ps)
   unit-full a b [] r = tt

@@ -12,7 +12,7 @@ use Rattle.element.specs.declared.Part.{Part}
 
 -- L3
 abbrev pub payloadLimit : ℕ
-payloadLimit = 65533
+payloadLimit = 1048576
 
 -- the bytes of an element
 abbrev pub bytesOf : List ℕ → Part → List ℕ

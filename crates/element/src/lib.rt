@@ -12,7 +12,7 @@ ghost use Rattle.element.specs.Elements.{elementAt, isDue, hasField, cou
 ghost use Rattle.element.specs.Paper.{paperRead, paperWalk, withPart, walked};
 
 // The most bytes of a payload.
-pub const PAYLOAD_LIMIT: usize = 65533;
+pub const PAYLOAD_LIMIT: usize = 1048576;
 
 // A part of a payload: where it starts, how many bytes it has, and the cursor after it.
 pub struct Part {

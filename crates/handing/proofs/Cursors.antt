@@ -2,6 +2,7 @@
 --     read-at          element i is read at its cursor
 --     cursor-inside    which lies in the payload
 --     cursor-next      and the next one is where the element ends
+--     cursor-some      behind the header byte
 use mathlib.Core.Path.{_≡_, refl, sym, ap, _∙_}
 use Prim.Native.Nat.{ℕ, zero, suc, _+_, _-_, _≤_, _<_}
 use native.Mathlib.Numerals.{add-one}
@@ -105,6 +106,11 @@ module _ (payload : List ℕ) (ps : List Part) (whole : payloadElements payload 
 
   pub part-at : (i : ℕ) → i < length ps → Lies (cursorOf ps i) (length payload) (getD ps i nowhere)
   part-at i h = part-lies payload (cursorOf ps i) (hasField w i) (getD ps i nowhere) (cursor-inside i (omega arith)) (read-at i h)
+
+  -- every cursor stands behind the header byte
+  pub cursor-some : (i : ℕ) → i ≤ length ps → 1 ≤ cursorOf ps i
+  cursor-some zero h = omega arith
+  cursor-some (suc i) h = rw (← add-one i, cursor-next ps i) (omega (arith, part-at i (omega arith)))
 
   -- there is at least one
   pub elements-some : 1 ≤ length ps

@@ -22,7 +22,7 @@ use Rattle.handing.specs.Handing.{fragmentLimit, before, wires}
 use Rattle.handing.specs.Inside.{across, handedOf, both, counted, RoomAt, putAt, putFirst, partsOf, cursorOf, led, between, Finishing}
 use Rattle.handing.specs.declared.Handed.{Handed}
 use Rattle.handing.proofs.Wires.{before-assoc, before-none}
-use Rattle.handing.proofs.Cursors.{cursor-next, payload-small, part-at}
+use Rattle.handing.proofs.Cursors.{cursor-next, cursor-some, payload-small, part-at}
 use Rattle.handing.proofs.Across.{across-length}
 use Rattle.handing.proofs.Framing.{out-length, whole-spans, wire-dropped, wire-kept, wire-broken}
 
@@ -155,7 +155,7 @@ module _ {payload store : List ℕ} {from to joined : ℕ} {write : Bool} {out�
         (subst (λ (n : ℕ). Lies n (length payload) (getD (partsOf payload) i nowhere)) (sym (s .cursor)) (part-at payload (partsOf payload) whole i some))
 
     pub handing-size : kept + p .length < 2097152
-    handing-size = let l = handing-part in omega (arith, s .small, payload-small payload (partsOf payload) whole)
+    handing-size = let l = handing-part in omega (arith, s .small, s .cursor, payload-small payload (partsOf payload) whole, cursor-some payload (partsOf payload) whole i (s .within))
 
     -- the OBU that this element finishes
     abbrev obu : List ℕ

@@ -26,7 +26,7 @@ record Case : Type 0 where
 case : List ℕ → string.String → Case
 case input prints = record { input = input; prints = prints }
 
--- G13; a unit of no byte; another version, a cut head, a byte less, a byte more, a unit over the store; R7, R1
+-- G13; a unit of no byte; another version, a cut head, a byte less, a byte more, a unit over the store; R7; the largest mtu that the input can name
 cases : List Case
 cases =
     case (1 ∷ 0 ∷ 5 ∷ 0 ∷ 0 ∷ 0 ∷ 5 ∷ 10 ∷ 1 ∷ 127 ∷ 50 ∷ 0 ∷ []) "obus 2\npackets 2\n0 0 1 0 2 2 10 0\n1 1 1 0 1 1 10 3\n"
@@ -37,7 +37,7 @@ cases =
     ∷ case (1 ∷ 0 ∷ 5 ∷ 0 ∷ 0 ∷ 0 ∷ 2 ∷ 50 ∷ 0 ∷ 0 ∷ []) "bad input\n"
     ∷ case (1 ∷ 0 ∷ 5 ∷ 0 ∷ 0 ∷ 128 ∷ 1 ∷ 50 ∷ []) "bad input\n"
     ∷ case (1 ∷ 0 ∷ 5 ∷ 0 ∷ 0 ∷ 0 ∷ 3 ∷ 50 ∷ 2 ∷ 161 ∷ []) "refused 7 0\n"
-    ∷ case (1 ∷ 255 ∷ 254 ∷ 0 ∷ 0 ∷ 0 ∷ 2 ∷ 50 ∷ 0 ∷ []) "refused 1 0\n"
+    ∷ case (1 ∷ 255 ∷ 255 ∷ 0 ∷ 0 ∷ 0 ∷ 2 ∷ 50 ∷ 0 ∷ []) "obus 1\npackets 1\n0 0 1 0 1 1 10 0\n"
     ∷ []
 
 prints-all : map (λ (c : Case). planlistText (c .input)) cases ≡ map (λ (c : Case). ascii (c .prints)) cases

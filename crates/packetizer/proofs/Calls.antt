@@ -40,7 +40,7 @@ unit-total unit = omega (arith, total-weight (keptOf unit), sizes-small unit)
 
 pub unit-small : (unit : List ℕ) → length unit ≤ unitLimit → (j : ℕ) → j < length (sizesOf unit)
     → (1 ≤ getD (sizesOf unit) j 0) × (getD (sizesOf unit) j 0 ≤ unitLimit)
-unit-small unit h j l = (unit-positive unit j l, omega (arith, total-each (sizesOf unit) j l, unit-total unit))
+unit-small unit h j l = (unit-positive unit j l, omega (arith, total-each (sizesOf unit) j, unit-total unit))
 
 -- where a payload of a unit's plan ends
 pub unit-near : (mtu : ℕ) (unit : List ℕ) (k : ℕ) → leastMtu ≤ mtu → length unit ≤ unitLimit → k < length (unitPlan mtu unit)
@@ -63,6 +63,10 @@ given-kept unit space l e = go (ltb unitLimit (length unit)) refl (ltb space (le
     go false t false v ended e =
         let q : l ≡ listedOf unit = cc in
         (ltb-false unitLimit (length unit) t, q, ltb-false space (length (keptOf unit)) v)
+
+-- it has space for its OBUs
+pub listed-few : (unit : List ℕ) (space : ℕ) (l : Listed) → given l ≡ listed space unit → length (obusOf unit) ≤ space
+listed-few unit space l e = omega (arith, given-kept unit space l e, length-map (keptOf unit) (λ (p : Placed). p .obu))
 
 -- ---- the OBU list, read back
 

@@ -1,4 +1,5 @@
 -- How many records a plan has, and how many bytes its payloads take (P14, P16). Assumes nothing.
+--     packet-most  a packet takes no more than all OBUs and their length fields
 --     plan-total   the elements have as many bytes as the OBUs
 --     plan-short   there are at most as many records as bytes
 --     plan-bytes   the payloads take at most three times as many
@@ -17,20 +18,24 @@ use Rattle.leb128.proofs.Theorems.{size-most}
 use Rattle.packetizer.specs.Fragment.{fieldSize}
 use Rattle.packetizer.specs.Plan.{mostCounted, leastMtu, planOf}
 use Rattle.packetizer.specs.Elements.{Element, elementsOf, elementBytes, fieldBytes, totalSize}
-use Rattle.packetizer.specs.Laws.{Position, position, endsAt, startsAt, Sound, Runs, Positive, plannedBytes}
+use Rattle.packetizer.specs.Laws.{Position, position, endOf, endsAt, startsAt, Sound, Runs, Positive, plannedBytes}
 use Rattle.packetizer.specs.declared.PacketMetadata.{PacketMetadata}
 use Rattle.packetizer.proofs.Fragments.{field-most}
 use Rattle.packetizer.proofs.Bodies.{elements-count, bytes-append}
 use Rattle.packetizer.proofs.Laws.{plan-runs}
 use Rattle.packetizer.proofs.Pieces.{elementEnd, Tiles, plan-tile, plan-tiles}
 
--- ---- OBUs of so many bytes together: none has more, and there are no more of them
+-- ---- OBUs of so many bytes together: none has more, with those before it too, and there are no more of them
 
-pub total-each : (sizes : List ℕ) (j : ℕ) → j < length sizes → getD sizes j 0 ≤ totalSize sizes
+total-within : (sizes : List ℕ) (i : ℕ) → totalSize (take i sizes) + getD sizes i 0 ≤ totalSize sizes
 unfolding totalSize
-total-each [] j h = absurd (omega arith)
-total-each (s ∷ ss) zero h = omega arith
-total-each (s ∷ ss) (suc j) h = omega (arith, total-each ss j (omega arith))
+total-within [] zero = omega arith
+total-within [] (suc i) = omega arith
+total-within (s ∷ ss) zero = omega arith
+total-within (s ∷ ss) (suc i) = omega (arith, total-within ss i)
+
+pub total-each : (sizes : List ℕ) (j : ℕ) → getD sizes j 0 ≤ totalSize sizes
+total-each sizes j = omega (arith, total-within sizes j)
 
 pub total-count : (sizes : List ℕ) → Positive sizes → length sizes ≤ totalSize sizes
 unfolding totalSize
@@ -48,6 +53,12 @@ total-take (s ∷ ss) (suc i) = omega (arith, total-take ss i)
 
 abbrev before : List ℕ → Position → ℕ
 before sizes a = totalSize (take (a .obu) sizes) + a .offset
+
+ends-within : (sizes : List ℕ) (next e : ℕ) → before sizes (endOf sizes next e) ≤ totalSize sizes
+ends-within sizes next e =
+    by-cond (λ (b : Position). before sizes b ≤ totalSize sizes) (ltb e (getD sizes (next - 1) 0)) _ _
+    (λ t. omega (arith, ltb-true e (getD sizes (next - 1) 0) t, total-within sizes (next - 1)))
+    (λ t. omega (arith, total-within sizes next))
 
 element-total : (sizes : List ℕ) (e : Element) → e .from + e .size ≤ getD sizes (e .obu) 0
     → before sizes (position (e .obu) (e .from)) + e .size ≡ before sizes (elementEnd sizes e)
@@ -83,9 +94,23 @@ tiles-fields sizes false a b (e ∷ []) h = omega arith
 tiles-fields sizes last a b (e ∷ f ∷ es) h =
     omega (arith, field-below (e .size) (h .1), tiles-fields sizes last (elementEnd sizes e) b (f ∷ es) (h .3))
 
+fields-most : (last : Bool) (es : List Element) → fieldBytes last es ≤ 5 * length es
+unfolding fieldBytes
+fields-most last [] = omega arith
+fields-most true (e ∷ []) = omega (arith, field-most (e .size))
+fields-most false (e ∷ []) = omega arith
+fields-most last (e ∷ f ∷ es) = omega (arith, field-most (e .size), fields-most last (f ∷ es))
+
 -- ---- records
 
 module _ (room : ℕ) (sizes : List ℕ) (some : Positive sizes) where
+  -- whatever the room
+  pub packet-most : (p : PacketMetadata) → Sound room sizes p → p .«packet_size» ≤ totalSize sizes + 5 * length sizes
+  packet-most p s =
+      let es = elementsOf sizes p in
+      let end : before sizes (endsAt sizes p) ≤ totalSize sizes = ends-within sizes (p .«first_obu_index» + p .«num_obu_elements») _ in
+      omega (arith, s .paid, s .inside, tiles-total sizes (startsAt p) (endsAt sizes p) es (plan-tile sizes some room p s), fields-most (ltb mostCounted (length es)) es, elements-count sizes (p .«num_obu_elements») (p .«first_obu_index») (p .«first_obu_offset») (p .«last_obu_size»))
+
   record-bytes : (p : PacketMetadata) → Sound room sizes p → p .«packet_size» + 1 ≤ 3 * elementBytes (elementsOf sizes p)
   record-bytes p s =
       let es = elementsOf sizes p in

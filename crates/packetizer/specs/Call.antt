@@ -16,7 +16,7 @@ use Rattle.packetizer.specs.declared.Planned.{Planned}
 
 -- L2
 abbrev pub mtuLimit : ℕ
-mtuLimit = 65533
+mtuLimit = 1048576
 
 -- the sizes of OBUs; of a unit's kept OBUs, and its plan
 abbrev pub sizes : List Obu → List ℕ

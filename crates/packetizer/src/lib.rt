@@ -18,7 +18,7 @@ ghost use Rattle.packetizer.specs.Inside.{Plannable, Closable, Closed};
 ghost use Rattle.packetizer.specs.Records.{planNumbers, packetsIn, noPacket};
 
 // The largest mtu, the smallest that gives packets, the numbers of a record in a flat list, and the byte that every payload begins with.
-const MTU_LIMIT: usize = 65533;
+const MTU_LIMIT: usize = 1048576;
 
 const LEAST_MTU: usize = 3;
 

@@ -1,34 +1,75 @@
 -- The head and a unit's length, case by case. Assumes nothing.
-use mathlib.Core.Path.{_≡_, refl, sym, ap₂, _∙_}
-use Prim.Native.Nat.{ℕ, _+_, _≤_, _<_}
+use mathlib.Core.Path.{_≡_, refl, sym, ap, ap₂, _∙_}
+use Prim.Native.Nat.{ℕ, _≤_, _<_}
 use native.Mathlib.Omega.{arith}
 use mathlib.Core.List.{List, [], _∷_}
 use mathlib.Core.Bool.{cond, _||_}
-use lib.ListN.{length, getD, take}
+use lib.ListN.{length, getD, take, drop}
+use lib.Seq.{take-take}
 use lib.Dec.{ltb}
+use Rattle.base.proofs.Lists.{take-drop, short-front}
 use Rattle.base.proofs.Tests.{split-on, or-second}
-use borrow.Author.Tests.{ltb-false, lt-ltb, le-ltb, eq-eqb, ne-eqb}
+use borrow.Author.Tests.{ltb-false, lt-ltb, le-ltb, ne-eqb}
 use Rattle.base.specs.BigEndian.{valueOf, valueAt}
 use Rattle.train.specs.Train.{numberWidth}
-use Rattle.packing.specs.Pack.{packVersion, mtuWidth, headWidth, unitWidth, unitStore, found, none, headIn, over, stated, cut, lengthIn}
+use Rattle.packing.specs.Pack.{versionWidth, versionByte, mtuWidth, known, other, versionWith, versionIn, restWidth, found, none, headAfter, unitWidth, unitStore, over, stated, cut, lengthIn}
+use Rattle.packing.specs.declared.input.InputVersion.{InputVersion}
+use Rattle.packing.specs.declared.input.InputVersion.the-variants as version
 
--- ---- the head
+-- ---- the version byte
 
-module _ (l : List ℕ) where
-  pub head-cut : length l < headWidth → none ≡ headIn l
-  unfolding headIn
-  head-cut h = rw (lt-ltb (length l) headWidth h)
+pub version-none : (l : List ℕ) → length l ≡ 0 → other ≡ versionIn l
+unfolding versionIn
+version-none [] h = refl
+version-none (b ∷ l) h = absurd (omega arith)
 
-  pub head-other : headWidth ≤ length l → (getD l 0 0 ≡ packVersion → ⊥) → none ≡ headIn l
-  unfolding headIn
-  head-other h v = rw (le-ltb (length l) headWidth h, ne-eqb (getD l 0 0) packVersion v)
+version-by : (l : List ℕ) → (length l ≡ 0 → ⊥) → versionIn l ≡ versionWith (getD l 0 0)
+unfolding versionIn
+version-by [] h = absurd (h refl)
+version-by (b ∷ l) h = refl
 
-  pub head-found : (m f : ℕ) → headWidth ≤ length l → getD l 0 0 ≡ packVersion
-      → m ≡ valueAt l 1 mtuWidth → f ≡ valueAt l (1 + mtuWidth) numberWidth → found (record { mtu = m; first = f }) ≡ headIn l
-  unfolding headIn
-  head-found m f h v p q =
-      rw (le-ltb (length l) headWidth h, eq-eqb (getD l 0 0) packVersion v)
-      (ap₂ (λ (x y : ℕ). found (record { mtu = x; first = y })) p q)
+module _ (l : List ℕ) (some : length l ≡ 0 → ⊥) where
+  pub version-known : (v : InputVersion) → getD l 0 0 ≡ versionByte v → known v ≡ versionIn l
+  unfolding versionWith
+  version-known version.Short e = sym (version-by l some ∙ rw e)
+  version-known version.Long e = sym (version-by l some ∙ rw e)
+
+  pub version-other : (getD l 0 0 ≡ versionByte version.Short → ⊥) → (getD l 0 0 ≡ versionByte version.Long → ⊥) → other ≡ versionIn l
+  unfolding versionWith
+  version-other s t =
+      sym (version-by l some ∙ rw (ne-eqb (getD l 0 0) (versionByte version.Short) s, ne-eqb (getD l 0 0) (versionByte version.Long) t))
+
+-- it is the first byte that tells
+pub version-front : (l : List ℕ) → versionIn (take versionWidth l) ≡ versionIn l
+unfolding versionIn
+version-front [] = refl
+version-front (b ∷ l) = refl
+
+-- ---- the rest of the head
+
+pub mtu-within : (v : InputVersion) → mtuWidth v ≤ 4
+mtu-within version.Short = omega arith
+mtu-within version.Long = omega arith
+
+module _ (v : InputVersion) (l : List ℕ) where
+  pub head-cut : length l < restWidth v → none ≡ headAfter v l
+  unfolding headAfter
+  head-cut h = rw (lt-ltb (length l) (restWidth v) h)
+
+  pub head-found : (m f : ℕ) → restWidth v ≤ length l → m ≡ valueAt l 0 (mtuWidth v) → f ≡ valueAt l (mtuWidth v) numberWidth
+      → found (record { mtu = m; first = f }) ≡ headAfter v l
+  unfolding headAfter
+  head-found m f h p q =
+      rw (le-ltb (length l) (restWidth v) h) (ap₂ (λ (x y : ℕ). found (record { mtu = x; first = y })) p q)
+
+  -- these bytes alone decide
+  pub head-front : headAfter v (take (restWidth v) l) ≡ headAfter v l
+  unfolding headAfter
+  head-front =
+      rw (short-front (restWidth v) l)
+      (ap₂ (λ (x y : List ℕ). cond (ltb (length l) (restWidth v)) none (found (record { mtu = valueOf x; first = valueOf y })))
+      (take-take (mtuWidth v) (restWidth v) l (omega arith))
+      (ap (take numberWidth) (sym (take-drop numberWidth (mtuWidth v) l)) ∙ take-take numberWidth numberWidth (drop (mtuWidth v) l) (omega arith)))
 
 -- ---- the length of a unit
 

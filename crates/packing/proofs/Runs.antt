@@ -7,46 +7,43 @@ use mathlib.Core.Bool.{Bool, true, false, cond}
 use lib.ListN.{length, take, drop, length-drop}
 use lib.Seq.{drop-drop, take-take, take-at, length-take-le}
 use lib.Dec.{ltb}
-use borrow.Author.Tests.{ltb-false, le-ltb}
+use borrow.Author.Tests.{ltb-false}
 use Rattle.base.specs.Answers.{Answer, given, refused}
 use Rattle.base.specs.Lists.{front}
 use Rattle.base.specs.Streams.{Next, halt, chained}
 use Rattle.base.proofs.Lists.{short-front, flatMap-append}
 use Rattle.base.proofs.Tests.{by-cond, split-on}
 use Rattle.base.proofs.Streams.{Some, stream-next}
-use Rattle.obu.specs.Unit.{obusOf, listed}
-use Rattle.obu.specs.declared.Listed.{Listed}
-use Rattle.packetizer.specs.Call.{mtuLimit, unitPlan, planned}
+use Rattle.obu.specs.Unit.{obusOf}
+use Rattle.packetizer.specs.Call.{unitPlan}
 use Rattle.packetizer.specs.declared.Planned.{Planned}
 use Rattle.payloader.specs.Payload.{payloadsOf}
-use Rattle.train.specs.Train.{trainHead, Numbered, recordBytes}
+use Rattle.train.specs.Train.{headFor, Numbered, recordBytes}
 use Rattle.turns.specs.Text.{lineText}
 use Rattle.turns.specs.Orders as orders
 use Rattle.turns.specs.Orders.{nextCount, Told, asks, says}
 use Rattle.turns.specs.Loop.{Output, nothing, also, loop}
 use Rattle.turns.specs.declared.Subject.{Subject}
 use Rattle.turns.specs.declared.Word.{Word}
-use Rattle.packing.specs.Pack.{listRecords, headWidth, unitWidth, Head, found, none, headIn, Length, over, stated, cut, lengthIn, nextNumber, numbered, numberAfter, writtenRecords, answerIn, cutShort, packedBy, unitIn, Units, PackEnd, ended, cutAt, unitBy, unitAfter, unitNext, unitsFrom, unitsBy, packOf, trainBy, saidAt, saidBy, packSays}
-use Rattle.packing.specs.Steps.{awaits, startsWith, headTold, lengthTold, unitTold, begins, after}
+use Rattle.packing.specs.Pack.{listRecords, versionWidth, unitWidth, Version, known, other, versionIn, Head, found, none, restWidth, headAfter, headBy, behindBy, Length, over, stated, cut, lengthIn, nextNumber, numbered, numberAfter, writtenRecords, answerIn, cutShort, packedBy, unitIn, Units, PackEnd, ended, cutAt, unitBy, unitAfter, unitNext, unitsFrom, unitsBy, packOf, trainBy, saidAt, saidBy, packSays}
+use Rattle.packing.specs.Steps.{awaits, startsWith, versionTold, headTold, lengthTold, unitTold, begins, after}
 use Rattle.packing.specs.Run.{pack, runOf}
+use Rattle.packing.specs.declared.input.InputVersion.{InputVersion}
 use Rattle.packing.specs.declared.unit.Progress.{Progress}
 use Rattle.packing.specs.declared.Wait.the-variants as wait
 use Rattle.packing.specs.declared.Place.{Place}
 use Rattle.payloader.proofs.Starts.{payloads-count}
+use Rattle.packing.proofs.Reading.{version-none, version-front, head-front}
+use Rattle.packing.proofs.Units.{packed-few}
 
 abbrev run : ℕ → Told Place → List ℕ → List ℕ → Output
 run = loop pack
 
--- ---- what came decides as the whole does
+-- what is to come of an input with this head, behind which this stands
+abbrev outputBy : List ℕ → Head → Output
+outputBy l x = record { written = trainBy (unitsBy l x .items) x; said = saidBy (unitsBy l x .stop) x }
 
-head-front : (l : List ℕ) → headIn (take headWidth l) ≡ headIn l
-unfolding headIn
-head-front [] = refl
-head-front (a ∷ []) = refl
-head-front (a ∷ b ∷ []) = refl
-head-front (a ∷ b ∷ c ∷ []) = refl
-head-front (a ∷ b ∷ c ∷ d ∷ []) = refl
-head-front (a ∷ b ∷ c ∷ d ∷ e ∷ l) = rw (le-ltb (length (a ∷ b ∷ c ∷ d ∷ e ∷ l)) headWidth (omega arith))
+-- ---- what came decides as the whole does
 
 length-front : (l : List ℕ) → lengthIn (take unitWidth l) ≡ lengthIn l
 unfolding lengthIn
@@ -63,26 +60,6 @@ stated-there (b ∷ l) s e = split-on (ltb (length (b ∷ l)) unitWidth)
     let z : _≡_ {A = ℕ} 0 1 = cc in
     absurd (omega arith))
     (λ t. ltb-false (length (b ∷ l)) unitWidth t)
-
--- ---- a unit that is packed has no more packets than its list holds
-
-module _ (mtu : ℕ) (u : List ℕ) (p : Planned) where
-  by-planned : (a : Answer Listed) → given p ≡ planned (unitPlan mtu u) listRecords a → length (unitPlan mtu u) ≤ listRecords
-  by-planned (refused k at) e = let z : _≡_ {A = ℕ} 0 1 = cc in absurd (omega arith)
-  by-planned (given n) e = split-on (ltb listRecords (length (unitPlan mtu u)))
-      (λ t.
-      let f : given p ≡ refused 9 0 = rw t at e in
-      let z : _≡_ {A = ℕ} 0 1 = cc in
-      absurd (omega arith))
-      (λ t. ltb-false listRecords (length (unitPlan mtu u)) t)
-
-  packets-most : given p ≡ answerIn listRecords listRecords mtu u → length (payloadsOf mtu u) ≤ listRecords
-  packets-most e = split-on (ltb mtuLimit mtu)
-      (λ t.
-      let f : given p ≡ refused 1 0 = rw t at e in
-      let z : _≡_ {A = ℕ} 0 1 = cc in
-      absurd (omega arith))
-      (λ t. omega (arith, by-planned (listed listRecords u) (rw t at e), payloads-count u (obusOf u) 0 (unitPlan mtu u)))
 
 -- ---- the units, and their records
 
@@ -124,14 +101,14 @@ run-says (suc n) h p x w s l =
 module _ (mtu : ℕ) where
   -- the records of units, the first packet of which has the number n
   abbrev records-of : ℕ → List (List ℕ) → List ℕ
-  records-of n units = writtenRecords (trainHead .width) n (flatMap (payloadsOf mtu) units)
+  records-of n units = writtenRecords (headFor mtu .width) n (flatMap (payloadsOf mtu) units)
 
   records-more : (n : ℕ) (u : List ℕ) (us : List (List ℕ))
-      → records-of n (u ∷ us) ≡ writtenRecords (trainHead .width) n (payloadsOf mtu u) ++ records-of (numberAfter n (payloadsOf mtu u)) us
+      → records-of n (u ∷ us) ≡ writtenRecords (headFor mtu .width) n (payloadsOf mtu u) ++ records-of (numberAfter n (payloadsOf mtu u)) us
   unfolding flatMap
   records-more n u us =
-      ap (flatMap (recordBytes (trainHead .width))) (numbered-append n (payloadsOf mtu u) (flatMap (payloadsOf mtu) us))
-      ∙ flatMap-append (recordBytes (trainHead .width)) (numbered n (payloadsOf mtu u)) (numbered (numberAfter n (payloadsOf mtu u)) (flatMap (payloadsOf mtu) us))
+      ap (flatMap (recordBytes (headFor mtu .width))) (numbered-append n (payloadsOf mtu u) (flatMap (payloadsOf mtu) us))
+      ∙ flatMap-append (recordBytes (headFor mtu .width)) (numbered n (payloadsOf mtu u)) (numbered (numberAfter n (payloadsOf mtu u)) (flatMap (payloadsOf mtu) us))
 
   -- what is to come of units, the first packet of which has the number n
   abbrev outputFor : ℕ → Units → Output
@@ -167,7 +144,7 @@ module _ (mtu : ℕ) where
     abbrev packetsThen : ℕ → List (List ℕ) → Output
     packetsThen n ps =
         record {
-          written = writtenRecords (trainHead .width) n ps ++ records-of (numberAfter n ps) (units-at (nextCount i) l .items);
+          written = writtenRecords (headFor mtu .width) n ps ++ records-of (numberAfter n ps) (units-at (nextCount i) l .items);
           said = saidAt (units-at (nextCount i) l .stop);
         }
 
@@ -181,9 +158,9 @@ module _ (mtu : ℕ) where
     run-packets (x ∷ ps) (suc turns) n g w e f h k =
         let rest : drop (g .packet + 1) (payloadsOf mtu u) ≡ ps = sym (drop-drop 1 (g .packet) (payloadsOf mtu u)) ∙ ap (drop 1) f in
         ap (also w [])
-        (rw (e, f) (run-packets ps turns (nextNumber n) (after g) (recordBytes (trainHead .width) (record { number = n; payload = x })) e rest (omega arith) (omega arith)
+        (rw (e, f) (run-packets ps turns (nextNumber n) (after g) (recordBytes (headFor mtu .width) (record { number = n; payload = x })) e rest (omega arith) (omega arith)
         ∙ ap (λ (a : List ℕ). record { written = a; said = saidAt (units-at (nextCount i) l .stop) })
-        (sym (append-assoc (recordBytes (trainHead .width) (record { number = n; payload = x })) (writtenRecords (trainHead .width) (nextNumber n) ps) (records-of (numberAfter (nextNumber n) ps) (units-at (nextCount i) l .items))))))
+        (sym (append-assoc (recordBytes (headFor mtu .width) (record { number = n; payload = x })) (writtenRecords (headFor mtu .width) (nextNumber n) ps) (records-of (numberAfter (nextNumber n) ps) (units-at (nextCount i) l .items))))))
 
   -- ---- one unit, of s bytes, of which those of u were read
 
@@ -197,7 +174,7 @@ module _ (mtu : ℕ) where
     unfolding flatMap numbered
     by-answer u store e (refused k at) f = run-says turns (omega arith) (within i n s) _ _ store l
     by-answer u store e (given p) f =
-        run-packets i most need u store l again (payloadsOf mtu u) turns n (begins s p) [] e refl enough (omega (arith, packets-most mtu u p f))
+        run-packets i most need u store l again (payloadsOf mtu u) turns n (begins s p) [] e refl enough (omega (arith, packed-few mtu u p f .1, payloads-count u (obusOf u) 0 (unitPlan mtu u)))
         ∙ ap (λ (a : List ℕ). record { written = a; said = saidAt (units-at (nextCount i) l .stop) }) (sym (records-more n u (units-at (nextCount i) l .items)))
 
     by-unit : (u store : List ℕ) (t : Bool) → (t ≡ false → take s store ≡ u)
@@ -260,18 +237,37 @@ module _ (mtu : ℕ) where
 
 -- ---- the input
 
+-- what stands behind the version byte
+run-head : (turns : ℕ) (v : InputVersion) (s l : List ℕ) → 600 * length l + 5 ≤ turns
+    → run turns (asks (awaits (startsWith .place) (wait.Head v)) [] (restWidth v)) s l ≡ outputBy (drop (restWidth v) l) (headAfter v l)
+unfolding loop
+run-head zero v s l h = absurd (omega arith)
+run-head (suc n) v s l h = ap By (head-front v l) ∙ go (headAfter v l)
+  where
+    By : Head → Output
+    By x = also [] [] (run n (headTold (awaits (startsWith .place) (wait.Head v)) x) (front (take (restWidth v) l) s) (drop (restWidth v) l))
+
+    go : (x : Head) → By x ≡ outputBy (drop (restWidth v) l) x
+    go none = ap (also [] []) (run-says n (omega arith) (awaits (startsWith .place) (wait.Head v)) _ _ _ _)
+    go (found x) =
+        ap (also [] [])
+        (run-units (x .mtu) n n (omega arith) 0 (drop (restWidth v) l) (omega (arith, length-drop (restWidth v) l))
+        (x .first) (front (take (restWidth v) l) s) (headFor (x .mtu) .version ∷ []))
+
 -- whatever the store holds, and with enough turns
 pub run-packs : (turns : ℕ) (s input : List ℕ) → 600 * length input + 5 ≤ turns → runOf turns s input ≡ record { written = packOf input; said = packSays input }
 unfolding loop
 run-packs zero s input h = absurd (omega arith)
-run-packs (suc n) s input h = ap By (head-front input) ∙ go (headIn input)
+run-packs (suc n) s input h = ap By (version-front input) ∙ go (versionIn input) refl
   where
-    By : Head → Output
-    By x = also [] [] (run n (headTold (startsWith .place) x) (front (take headWidth input) s) (drop headWidth input))
+    rest : List ℕ
+    rest = drop versionWidth input
 
-    go : (x : Head) → By x ≡ record { written = trainBy (unitsBy (drop headWidth input) x .items) x; said = saidBy (unitsBy (drop headWidth input) x .stop) x }
-    go none = ap (also [] []) (run-says n (omega arith) (startsWith .place) _ _ _ _)
-    go (found x) =
-        ap (also [] [])
-        (run-units (x .mtu) n n (omega arith) 0 (drop headWidth input) (omega (arith, length-drop headWidth input))
-        (x .first) (front (take headWidth input) s) (trainHead .version ∷ []))
+    By : Version → Output
+    By x = also [] [] (run n (versionTold (startsWith .place) x) (front (take versionWidth input) s) rest)
+
+    go : (x : Version) → x ≡ versionIn input → By x ≡ outputBy (behindBy rest x) (headBy rest x)
+    go other e = ap (also [] []) (run-says n (omega arith) (startsWith .place) _ _ _ _)
+    go (known v) e =
+        let some : length input ≡ 0 → ⊥ = λ z. let q : known v ≡ other = e ∙ sym (version-none input z) in let z : _≡_ {A = ℕ} 0 1 = cc in omega arith in
+        ap (also [] []) (run-head n v (front (take versionWidth input) s) rest (omega (arith, some, length-drop versionWidth input)))

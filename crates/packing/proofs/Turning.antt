@@ -10,8 +10,8 @@ use Rattle.turns.specs.Orders.{Told, Turned, arrival}
 use Rattle.turns.specs.declared.Order.{Order}
 use Rattle.turns.specs.declared.Came.{Came}
 use Rattle.turns.specs.declared.Came.the-variants as came
-use Rattle.packing.specs.Pack.{unitStore, Head, found, none, Length, over, stated, cut, lengthIn, Unit′, cutShort, refusedBy, packed}
-use Rattle.packing.specs.Steps.{recordRoom, headTold, lengthTold, unitTold, toldBy, told, Ready, ReadyBy, ReadyAt, Still, Gives}
+use Rattle.packing.specs.Pack.{unitStore, Version, known, other, Head, found, none, Length, over, stated, cut, lengthIn, Unit′, cutShort, refusedBy, packed}
+use Rattle.packing.specs.Steps.{recordRoom, versionTold, headTold, lengthTold, unitTold, toldBy, told, Ready, ReadyBy, ReadyAt, Still, Gives}
 use Rattle.packing.specs.declared.unit.Progress.{Progress}
 use Rattle.packing.specs.declared.Wait.{Wait}
 use Rattle.packing.specs.declared.Wait.the-variants as wait
@@ -37,6 +37,10 @@ module _ (input obus plan : List ℕ) where
   pub ready-given : {t : Told Place} {turn : Turn} {line line′ : List ℕ} → Gives t turn line line′ → ReadyAt (t .place) input obus plan → ReadyAt (turn .place) input obus plan
   ready-given {t} {turn} g r = ready-as {p = turn .place} {q = t .place} (g .turned .0 .place-is) r
 
+  pub version-ready : (p : Place) (x : Version) → ReadyAt (versionTold p x .place) input obus plan
+  version-ready p (known v) = tt
+  version-ready p other = tt
+
   pub head-ready : (p : Place) (x : Head) → ReadyAt (headTold p x .place) input obus plan
   head-ready p (found h) = tt
   head-ready p none = tt
@@ -59,7 +63,8 @@ ready-at mtu input obus plan e r = rw e at r
 -- where nothing was read into the input while packets are written
 pub ready-still : (w : Wait) (o : Order) (mtu : ℕ) (input input′ obus plan : List ℕ) → Still w o → (o .read ≡ 0 → input′ ≡ input)
     → ReadyBy w mtu input obus plan → ReadyBy w mtu input′ obus plan
-ready-still wait.Head o mtu input input′ obus plan s k r = tt
+ready-still wait.Version o mtu input input′ obus plan s k r = tt
+ready-still (wait.Head v) o mtu input input′ obus plan s k r = tt
 ready-still wait.Length o mtu input input′ obus plan s k r = tt
 ready-still (wait.Unit n) o mtu input input′ obus plan s k r = r
 ready-still (wait.Packets g) o mtu input input′ obus plan s k r = rw (k s) r
@@ -67,7 +72,8 @@ ready-still wait.Nothing o mtu input input′ obus plan s k r = tt
 
 -- what stands first in a part of the input stands first in all of it
 pub ready-wider : (w : Wait) (mtu n : ℕ) (input obus plan : List ℕ) → ReadyBy w mtu (take n input) obus plan → ReadyBy w mtu input obus plan
-ready-wider wait.Head mtu n input obus plan r = tt
+ready-wider wait.Version mtu n input obus plan r = tt
+ready-wider (wait.Head v) mtu n input obus plan r = tt
 ready-wider wait.Length mtu n input obus plan r = tt
 ready-wider (wait.Unit s) mtu n input obus plan r = r
 ready-wider (wait.Packets g) mtu n input obus plan r =
@@ -80,6 +86,10 @@ ready-wider wait.Nothing mtu n input obus plan r = tt
 pub first-stored : {b : ℕ} (l : List ℕ) → 1 ≤ length l → set l 0 b ≡ front (b ∷ []) l
 first-stored [] h = absurd (omega arith)
 first-stored (a ∷ l) h = refl
+
+pub version-quiet : (p : Place) (x : Version) (l : List ℕ) → l ≡ front (versionTold p x .written) l
+version-quiet p (known v) l = refl
+version-quiet p other l = refl
 
 pub length-quiet : (p : Place) (x : Length) (l : List ℕ) → l ≡ front (lengthTold p x .written) l
 length-quiet p over l = refl

@@ -1,16 +1,22 @@
 -- One unit, by what the plan call answers. Assumes nothing.
 use mathlib.Core.Path.{_≡_, refl, ap}
 use Prim.Native.Nat.{ℕ, _/_, _≤_, _<_}
+use native.Mathlib.Omega.{arith}
 use mathlib.Core.List.{List}
 use lib.ListN.{length, take}
-use borrow.Author.Tests.{lt-ltb, le-ltb}
-use Rattle.base.specs.Answers.{Answer, given}
+use lib.Dec.{ltb}
+use borrow.Author.Tests.{ltb-false, lt-ltb, le-ltb}
+use Rattle.base.specs.Answers.{Answer, given, refused}
+use Rattle.base.proofs.Tests.{split-on}
+use Rattle.obu.specs.Unit.{obusOf, listed}
 use Rattle.obu.specs.Records.{obuNumbers}
-use Rattle.packetizer.specs.Call.{toPlan, planAnswer, planUnit}
+use Rattle.obu.specs.declared.Listed.{Listed}
+use Rattle.packetizer.specs.Call.{mtuLimit, unitPlan, toPlan, planned, planAnswer, planUnit}
 use Rattle.packetizer.specs.Records.{planNumbers}
 use Rattle.packetizer.specs.declared.Planned.{Planned}
+use Rattle.packetizer.proofs.Calls.{listed-few}
 use Rattle.packetizer.proofs.Accepted.{planned-lists}
-use Rattle.packing.specs.Pack.{answerIn, cutShort, packedBy, unitIn}
+use Rattle.packing.specs.Pack.{unitStore, listRecords, answerIn, cutShort, packedBy, unitIn}
 use Rattle.packing.specs.Steps.{obuListNumbers, planListNumbers, begins, stepIn, Ready}
 use Rattle.packing.specs.declared.unit.UnitAnswer.the-variants as unit
 
@@ -22,14 +28,14 @@ module _ (mtu : ℕ) (unit obus plan : List ℕ) where
   answer-is = refl
 
   -- its first packet is ready to be written
-  pub unit-ready : (p : Planned) → given p ≡ planAnswer (toPlan mtu unit obus plan) → (obus′ plan′ : List ℕ)
+  pub unit-ready : (p : Planned) → length unit ≤ unitStore → given p ≡ planAnswer (toPlan mtu unit obus plan) → (obus′ plan′ : List ℕ)
       → obus′ ≡ planUnit (toPlan mtu unit obus plan) .obus → plan′ ≡ planUnit (toPlan mtu unit obus plan) .plan
       → Ready mtu (begins (length unit) p) unit obus′ plan′
-  unit-ready p e obus′ plan′ o q =
+  unit-ready p small e obus′ plan′ o q =
       let s = planned-lists mtu unit obus plan p e in
       rw (o, q) (record {
         unit-is = refl;
-        small = s .unit-within;
+        small = small;
         most = s .mtu-within;
         obus-room = s .obus-long;
         obus-is = s .obus-same;
@@ -49,6 +55,29 @@ packed-one e = cc
 pub step-in : (mtu s : ℕ) (l obus plan : List ℕ) → length obus ≡ obuListNumbers → length plan ≡ planListNumbers
     → unitIn (answerIn (length obus / obuNumbers) (length plan / planNumbers)) mtu s l ≡ stepIn mtu s l
 step-in mtu s l obus plan a b = rw (a, b) refl
+
+-- ---- a unit that is packed has space for its records, in both lists
+
+module _ (mtu : ℕ) (u : List ℕ) (p : Planned) where
+  abbrev Few : Type 0
+  Few = (length (obusOf u) ≤ listRecords) × (length (unitPlan mtu u) ≤ listRecords)
+
+  by-planned : (a : Answer Listed) → a ≡ listed listRecords u → given p ≡ planned (unitPlan mtu u) listRecords a → Few
+  by-planned (refused k at) q e = let z : _≡_ {A = ℕ} 0 1 = cc in absurd (omega arith)
+  by-planned (given l) q e = split-on (ltb listRecords (length (unitPlan mtu u)))
+      (λ t.
+      let f : given p ≡ refused 9 0 = rw t at e in
+      let z : _≡_ {A = ℕ} 0 1 = cc in
+      absurd (omega arith))
+      (λ t. (listed-few u listRecords l q, ltb-false listRecords (length (unitPlan mtu u)) t))
+
+  pub packed-few : given p ≡ answerIn listRecords listRecords mtu u → Few
+  packed-few e = split-on (ltb mtuLimit mtu)
+      (λ t.
+      let f : given p ≡ refused 1 0 = rw t at e in
+      let z : _≡_ {A = ℕ} 0 1 = cc in
+      absurd (omega arith))
+      (λ t. by-planned (listed listRecords u) refl (rw t at e))
 
 -- ---- the outcomes
 

@@ -1,8 +1,8 @@
 -- `pack` as functions on bytes: from its input to the train that it writes, and to what it says (G1 to G4, G6, G7, L12 to L14, T1, T2).
 use Prim.Native.Nat.{ℕ, _+_, _%_}
 use mathlib.Core.List.{List, [], _∷_, flatMap}
-use mathlib.Core.Bool.{cond, not, _||_}
-use lib.ListN.{length, getD, take, drop}
+use mathlib.Core.Bool.{cond, _||_}
+use lib.ListN.{length, take, drop}
 use lib.Dec.{ltb, eqb}
 use Rattle.base.specs.Numbers.{packetNumbers}
 use Rattle.base.specs.Answers.{Answer, given, refused}
@@ -12,38 +12,77 @@ use Rattle.obu.specs.Unit.{listed}
 use Rattle.packetizer.specs.Call.{mtuLimit, unitPlan, planned}
 use Rattle.packetizer.specs.declared.Planned.{Planned}
 use Rattle.payloader.specs.Payload.{payloadsOf}
-use Rattle.train.specs.Train.{trainHead, numberWidth, Numbered, recordBytes, trainOf}
+use Rattle.train.specs.Train.{headFor, numberWidth, Numbered, recordBytes, trainOf}
 pub use Rattle.turns.specs.Stores.{unitStore, listRecords, outputBytes}
 use Rattle.turns.specs.Text.{lineText}
 use Rattle.turns.specs.Orders.{nextCount}
 use Rattle.turns.specs.declared.Subject.the-variants as subject
 use Rattle.turns.specs.declared.Word.the-variants as word
+use Rattle.packing.specs.declared.input.InputVersion.{InputVersion}
+use Rattle.packing.specs.declared.input.InputVersion.the-variants as version
 use Rattle.packing.specs.declared.input.PackHead.{PackHead}
 
--- the version byte of the input, and how many bytes its mtu, its head and a unit's length have
-abbrev pub packVersion : ℕ
-packVersion = 1
-
-abbrev pub mtuWidth : ℕ
-mtuWidth = 2
-
-abbrev pub headWidth : ℕ
-headWidth = 1 + mtuWidth + numberWidth
+-- how many bytes the version and a unit's length have
+abbrev pub versionWidth : ℕ
+versionWidth = 1
 
 abbrev pub unitWidth : ℕ
 unitWidth = 4
 
--- ---- the head (G2, G6): mtu and first number, if it is whole and of this version
+-- ---- the head (G2, G6): a version byte, an mtu, and the first number
 
+-- the two versions: the version byte of each, and how many bytes its mtu has
+abbrev pub versionByte : InputVersion → ℕ
+versionByte version.Short = 1
+versionByte version.Long = 2
+
+abbrev pub mtuWidth : InputVersion → ℕ
+mtuWidth version.Short = 2
+mtuWidth version.Long = 4
+
+-- what a version byte tells, and the first byte of an input
+pub data Version : Type 0 where
+  known : InputVersion → Version
+  other : Version
+
+unfoldable pub versionWith : ℕ → Version
+versionWith b =
+    cond (eqb b (versionByte version.Short))
+    (known version.Short)
+    (cond (eqb b (versionByte version.Long)) (known version.Long) other)
+
+unfoldable pub versionIn : List ℕ → Version
+versionIn [] = other
+versionIn (b ∷ l) = versionWith b
+
+-- mtu and first number, which stand behind the version byte, if they are whole
 pub data Head : Type 0 where
   found : PackHead → Head
   none : Head
 
-unfoldable pub headIn : List ℕ → Head
-headIn l =
-    cond (ltb (length l) headWidth || not (eqb (getD l 0 0) packVersion))
+abbrev pub restWidth : InputVersion → ℕ
+restWidth v = mtuWidth v + numberWidth
+
+unfoldable pub headAfter : InputVersion → List ℕ → Head
+headAfter v l =
+    cond (ltb (length l) (restWidth v))
     none
-    (found (record { mtu = valueAt l 1 mtuWidth; first = valueAt l (1 + mtuWidth) numberWidth }))
+    (found (record { mtu = valueAt l 0 (mtuWidth v); first = valueAt l (mtuWidth v) numberWidth }))
+
+abbrev pub headBy : List ℕ → Version → Head
+headBy l (known v) = headAfter v l
+headBy l other = none
+
+-- those of an input; and what stands behind them
+abbrev pub headIn : List ℕ → Head
+headIn input = headBy (drop versionWidth input) (versionIn input)
+
+abbrev pub behindBy : List ℕ → Version → List ℕ
+behindBy l (known v) = drop (restWidth v) l
+behindBy l other = []
+
+abbrev pub behindHead : List ℕ → List ℕ
+behindHead input = behindBy (drop versionWidth input) (versionIn input)
 
 -- ---- the length of a unit (G2, G4): one over the store counts as cut
 
@@ -134,7 +173,7 @@ unitsBy l none = record { items = []; stop = ended }
 
 -- those of an input, and what stops it
 abbrev pub unitsIn : List ℕ → Units
-unitsIn input = unitsBy (drop headWidth input) (headIn input)
+unitsIn input = unitsBy (behindHead input) (headIn input)
 
 -- ---- the train
 
@@ -143,7 +182,7 @@ abbrev pub packetsOf : PackHead → List (List ℕ) → List Numbered
 packetsOf h units = numbered (h .first) (flatMap (payloadsOf (h .mtu)) units)
 
 abbrev pub trainBy : List (List ℕ) → Head → List ℕ
-trainBy units (found h) = trainOf trainHead (packetsOf h units)
+trainBy units (found h) = trainOf (headFor (h .mtu)) (packetsOf h units)
 trainBy units none = []
 
 abbrev pub packOf : List ℕ → List ℕ

@@ -3,14 +3,14 @@ use Prim.Native.Nat.{ℕ, _+_, _*_, _≤_, _<_}
 use mathlib.Core.Path.{_≡_}
 use mathlib.Core.List.{List, [], _∷_}
 use lib.ListN.{length, take, drop}
-use Rattle.obu.specs.Unit.{unitLimit, obusOf}
+use Rattle.obu.specs.Unit.{obusOf}
 use Rattle.obu.specs.Records.{obuNumbers, flat}
 use Rattle.packetizer.specs.Call.{mtuLimit, unitPlan}
 use Rattle.packetizer.specs.Records.{planNumbers, flatPlan}
 use Rattle.packetizer.specs.declared.Planned.{Planned}
 use Rattle.payloader.specs.Payload.{payloadAt, payloadsOf}
 use Rattle.payloader.specs.Inside as payloader
-use Rattle.train.specs.Train.{trainHead, numberWidth, recordBytes}
+use Rattle.train.specs.Train.{longHead, headFor, numberWidth, recordBytes}
 use Rattle.train.specs.Laws.{Writable}
 use Rattle.turns.specs.Text.{lineBytes}
 use Rattle.turns.specs.Orders.{nextCount, Told, ends, asks, says, Within, Turned, Arrival, bytes, readFailed, writeFailed, CameWithin}
@@ -19,7 +19,7 @@ use Rattle.turns.specs.declared.Came.{Came}
 use Rattle.turns.specs.declared.Subject.{Subject}
 use Rattle.turns.specs.declared.Subject.the-variants as subject
 use Rattle.turns.specs.declared.Word.the-variants as word
-use Rattle.packing.specs.Pack.{unitStore, listRecords, outputBytes, headWidth, unitWidth, Head, found, none, headIn, Length, over, stated, cut, lengthIn, nextNumber, answerIn, Unit′, cutShort, refusedBy, packed, unitIn}
+use Rattle.packing.specs.Pack.{unitStore, listRecords, outputBytes, versionWidth, unitWidth, Version, known, other, versionIn, Head, found, none, restWidth, headAfter, Length, over, stated, cut, lengthIn, nextNumber, answerIn, Unit′, cutShort, refusedBy, packed, unitIn}
 use Rattle.packing.specs.declared.unit.Progress.{Progress}
 use Rattle.packing.specs.declared.Wait.{Wait}
 use Rattle.packing.specs.declared.Wait.the-variants as wait
@@ -35,7 +35,7 @@ abbrev pub planListNumbers : ℕ
 planListNumbers = listRecords * planNumbers
 
 abbrev pub recordRoom : ℕ
-recordRoom = trainHead .width + numberWidth + outputBytes
+recordRoom = longHead .width + numberWidth + outputBytes
 
 -- the same unit, with this to wait for; and the next unit
 abbrev pub awaits : Place → Wait → Place
@@ -48,11 +48,16 @@ next p = record { wait = wait.Length; count = nextCount (p .count); mtu = p .mtu
 
 -- what a run begins with
 abbrev pub startsWith : Told Place
-startsWith = asks (record { wait = wait.Head; count = 0; mtu = 0; number = 0 }) [] headWidth
+startsWith = asks (record { wait = wait.Version; count = 0; mtu = 0; number = 0 }) [] versionWidth
+
+-- after the version byte: the rest of the head comes, or there is none
+abbrev pub versionTold : Place → Version → Told Place
+versionTold p (known v) = asks (awaits p (wait.Head v)) [] (restWidth v)
+versionTold p other = says (awaits p wait.Nothing) subject.Input word.NoHead 0
 
 -- after the head: the version byte of the train is written; or there is none
 abbrev pub headTold : Place → Head → Told Place
-headTold p (found h) = asks (record { wait = wait.Length; count = p .count; mtu = h .mtu; number = h .first }) (trainHead .version ∷ []) unitWidth
+headTold p (found h) = asks (record { wait = wait.Length; count = p .count; mtu = h .mtu; number = h .first }) (headFor (h .mtu) .version ∷ []) unitWidth
 headTold p none = says (awaits p wait.Nothing) subject.Input word.NoHead 0
 
 -- after a length: the end, or a unit that is cut or over the store
@@ -84,13 +89,14 @@ leftTold p g [] = asks (next p) [] unitWidth
 leftTold p g (x ∷ more) =
     asks
     (record { wait = wait.Packets (after g); count = p .count; mtu = p .mtu; number = nextNumber (p .number) })
-    (recordBytes (trainHead .width) (record { number = p .number; payload = x })) 0
+    (recordBytes (headFor (p .mtu) .width) (record { number = p .number; payload = x })) 0
 
 abbrev pub packetTold : Place → Progress → List (List ℕ) → Told Place
 packetTold p g payloads = leftTold p g (drop (g .packet) payloads)
 
 abbrev pub toldBy : Wait → Place → List ℕ → List ℕ → Told Place
-toldBy wait.Head p l input = headTold p (headIn l)
+toldBy wait.Version p l input = versionTold p (versionIn l)
+toldBy (wait.Head v) p l input = headTold p (headAfter v l)
 toldBy wait.Length p l input = lengthTold p (lengthIn l)
 toldBy (wait.Unit s) p l input = unitTold p s (stepIn (p .mtu) s l)
 toldBy (wait.Packets g) p l input = packetTold p g (payloadsOf (p .mtu) (take (g .unit) input))
@@ -98,14 +104,16 @@ toldBy wait.Nothing p l input = ends p
 
 -- after a read or a write that failed: a line, and then nothing more (G14). What was being read, and what was written before
 abbrev pub readOf : Wait → ℕ → Subject
-readOf wait.Head k = subject.Input
+readOf wait.Version k = subject.Input
+readOf (wait.Head v) k = subject.Input
 readOf wait.Length k = subject.Unit k
 readOf (wait.Unit s) k = subject.Unit k
 readOf (wait.Packets g) k = subject.Unit k
 readOf wait.Nothing k = subject.Unit k
 
 abbrev pub writtenOf : Wait → ℕ → Subject
-writtenOf wait.Head k = subject.Train
+writtenOf wait.Version k = subject.Train
+writtenOf (wait.Head v) k = subject.Train
 writtenOf wait.Length k = subject.Train
 writtenOf (wait.Unit s) k = subject.Unit k
 writtenOf (wait.Packets g) k = subject.Unit k
@@ -122,13 +130,19 @@ told p writeFailed input = says (awaits p wait.Nothing) (writtenOf (p .wait) (p 
 -- list and plan are those of this unit
 pub record Ready (mtu : ℕ) (g : Progress) (unit obus plan : List ℕ) : Type 0 where
   pub unit-is : length unit ≡ g .unit
-  pub small : length unit ≤ unitLimit
+  pub small : length unit ≤ unitStore
   pub most : mtu ≤ mtuLimit
   pub obus-room : g .obus * obuNumbers ≤ length obus
   pub obus-is : take (g .obus * obuNumbers) obus ≡ flat (obusOf unit)
   pub packets-is : g .packets ≡ length (unitPlan mtu unit)
   pub plan-room : g .packets * planNumbers ≤ length plan
   pub plan-is : take (g .packets * planNumbers) plan ≡ flatPlan (unitPlan mtu unit)
+
+-- what is lent where packets of this unit are written: the whole OBU list, and space for a record
+pub record LentPackets (mtu : ℕ) (g : Progress) (unit obus plan written : List ℕ) : Type 0 where
+  pub ready : Ready mtu g unit obus plan
+  pub obus-all : length obus ≡ obuListNumbers
+  pub written-is : length written ≡ recordRoom
 
 -- a packet that is there, and space for its record, whose length field can state its payload
 pub record Recordable (mtu : ℕ) (unit obus plan : List ℕ) (k w : ℕ) (records : List ℕ) : Type 0 where
@@ -139,7 +153,8 @@ pub record Recordable (mtu : ℕ) (unit obus plan : List ℕ) (k w : ℕ) (recor
 
 -- what has to hold of the stores where a run stands: a unit that is read fits; that whose packets are written stands first in the input
 abbrev pub ReadyBy : Wait → ℕ → List ℕ → List ℕ → List ℕ → Type 0
-ReadyBy wait.Head mtu input obus plan = Unit {0}
+ReadyBy wait.Version mtu input obus plan = Unit {0}
+ReadyBy (wait.Head v) mtu input obus plan = Unit {0}
 ReadyBy wait.Length mtu input obus plan = Unit {0}
 ReadyBy (wait.Unit s) mtu input obus plan = s ≤ unitStore
 ReadyBy (wait.Packets g) mtu input obus plan = Ready mtu g (take (g .unit) input) obus plan
@@ -160,7 +175,8 @@ pub record Lent (p : Place) (c : Came) (input obus plan written line : List ℕ)
 
 -- while packets are written nothing is read, so the unit stays where it is
 abbrev pub Still : Wait → Order → Type 0
-Still wait.Head o = Unit {0}
+Still wait.Version o = Unit {0}
+Still (wait.Head v) o = Unit {0}
 Still wait.Length o = Unit {0}
 Still (wait.Unit s) o = Unit {0}
 Still (wait.Packets g) o = o .read ≡ 0

@@ -1,17 +1,33 @@
 // What `pack` reads: the head of its input, and a unit's length (G2, G4, G6).
 use base::big_endian::number_at;
 ghost use mathlib.Core.Path.{_≡_};
-ghost use Rattle.packing.specs.Pack.{headIn, lengthIn};
-ghost use Rattle.packing.specs.Paper.{paperHead, paperLength};
+ghost use Rattle.packing.specs.Pack.{mtuWidth, versionIn, headAfter, lengthIn};
+ghost use Rattle.packing.specs.Paper.{paperVersion, paperHead, paperLength};
 
-// The bytes of the mtu, of the head and of a unit's length, and the version byte of the input.
-const MTU_WIDTH: usize = 2;
+// The two versions of the input: the version byte of each, and how many bytes its mtu has.
+const SHORT_VERSION: u8 = 1;
 
-pub const HEAD_WIDTH: usize = 1 + MTU_WIDTH + train::NUMBER_WIDTH;
+const SHORT_MTU: usize = 2;
+
+const LONG_VERSION: u8 = 2;
+
+const LONG_MTU: usize = 4;
+
+// The bytes of the version and of a unit's length.
+pub const VERSION_WIDTH: usize = 1;
 
 pub const UNIT_WIDTH: usize = 4;
 
-const PACK_VERSION: u8 = 1;
+// The version of an input: a short mtu or a long one.
+pub enum InputVersion {
+    Short,
+    Long,
+}
+
+pub enum VersionRead {
+    Known(InputVersion),
+    Other,
+}
 
 // The head of the input.
 pub struct PackHead {
@@ -31,18 +47,43 @@ pub enum UnitLength {
     Cut,
 }
 
-// The head of the input, or what there is of it.
-pub fn read_pack_head(bytes: &[u8]) -> PackHeadRead
-    ensures { λ r. ⌜ paperHead r ≡ headIn (now (bytes .entry)) ⌝ }
+// The version of the input, if there is a version byte, and one that is known.
+pub fn read_version(bytes: &[u8]) -> VersionRead
+    ensures { λ r. ⌜ paperVersion r ≡ versionIn (now (bytes .entry)) ⌝ }
 {
-    if bytes.len() < HEAD_WIDTH {
+    if bytes.len() == 0 {
+        return VersionRead::Other;
+    }
+    let version = bytes[0];
+    if version == SHORT_VERSION {
+        return VersionRead::Known(InputVersion::Short);
+    }
+    if version == LONG_VERSION {
+        return VersionRead::Known(InputVersion::Long);
+    }
+    VersionRead::Other
+}
+
+// How many bytes the mtu of such an input has.
+pub fn mtu_width(version: InputVersion) -> usize
+    ensures { λ r. ⌜ r ≡ mtuWidth version ⌝ }
+{
+    match version {
+        InputVersion::Short => SHORT_MTU,
+        InputVersion::Long => LONG_MTU,
+    }
+}
+
+// What stands behind the version byte, or what there is of it.
+pub fn read_head(bytes: &[u8], version: InputVersion) -> PackHeadRead
+    ensures { λ r. ⌜ paperHead r ≡ headAfter version (now (bytes .entry)) ⌝ }
+{
+    let width = mtu_width(version);
+    if bytes.len() < width + train::NUMBER_WIDTH {
         return PackHeadRead::NoHead;
     }
-    if bytes[0] != PACK_VERSION {
-        return PackHeadRead::NoHead;
-    }
-    let mtu = number_at(bytes, 1, MTU_WIDTH);
-    let first = number_at(bytes, 1 + MTU_WIDTH, train::NUMBER_WIDTH);
+    let mtu = number_at(bytes, 0, width);
+    let first = number_at(bytes, width, train::NUMBER_WIDTH);
     PackHeadRead::Head(PackHead {
         mtu: mtu,
         first: first as u16,

@@ -1,9 +1,12 @@
 // `pack` as steps on lent bytes: all that it decides (G1 to G4, G6, G7, G12, G14). The program does as each turn orders.
 mod input;
+mod subjects;
 mod unit;
 
+use input::InputVersion;
 use input::PackHeadRead;
 use input::UnitLength;
+use input::VersionRead;
 use turns::Came;
 use turns::Order;
 use turns::Subject;
@@ -18,8 +21,8 @@ ghost use Rattle.base.specs.Lists.{front};
 ghost use Rattle.payloader.specs.Payload.{payloadsOf};
 ghost use Rattle.turns.specs.Text.{lineBytes};
 ghost use Rattle.turns.specs.Orders.{arrival, says};
-ghost use Rattle.packing.specs.Pack.{unitStore, headIn, lengthIn};
-ghost use Rattle.packing.specs.Steps.{obuListNumbers, planListNumbers, recordRoom, awaits, next, readOf, writtenOf, startsWith, headTold, lengthTold, unitTold, stepIn, packetTold, told, Ready, ReadyAt, Gives, Lent};
+ghost use Rattle.packing.specs.Pack.{unitStore, versionIn, headAfter, lengthIn};
+ghost use Rattle.packing.specs.Steps.{obuListNumbers, planListNumbers, recordRoom, awaits, next, startsWith, versionTold, headTold, lengthTold, unitTold, stepIn, packetTold, told, ReadyAt, LentPackets, Gives, Lent};
 
 // The bytes of a unit, and of the longest payload that there is room for (L12, L14).
 pub const UNIT_STORE: usize = turns::UNIT_STORE;
@@ -31,11 +34,13 @@ pub const OBU_LIST_NUMBERS: usize = turns::LIST_RECORDS * obu::OBU_NUMBERS;
 
 pub const PLAN_LIST_NUMBERS: usize = turns::LIST_RECORDS * packetizer::PLAN_NUMBERS;
 
-pub const RECORD_BYTES: usize = train::LENGTH_WIDTH + train::NUMBER_WIDTH + OUTPUT_BYTES;
+pub const RECORD_BYTES: usize = train::FIELDS_MOST + OUTPUT_BYTES;
 
-// What a run waits for: the head, a unit's length, a unit of so many bytes, that the packets of a unit are written, or nothing.
+// What a run waits for: the version byte, the rest of a head of this version, a unit's length, a unit of so many bytes, that the packets of
+// a unit are written, or nothing.
 pub enum Wait {
-    Head,
+    Version,
+    Head(InputVersion),
     Length,
     Unit(usize),
     Packets(Progress),
@@ -80,18 +85,18 @@ fn following(place: Place) -> Place
     }
 }
 
-// What a run begins with: the head is read.
+// What a run begins with: the version byte is read.
 pub fn start() -> Turn
     ensures { λ r. ⌜ Gives startsWith r [] [] ⌝ }
 {
     Turn {
         place: Place {
-            wait: Wait::Head,
+            wait: Wait::Version,
             count: 0,
             mtu: 0,
             number: 0,
         },
-        order: turns::ask(0, input::HEAD_WIDTH),
+        order: turns::ask(0, input::VERSION_WIDTH),
     }
 }
 
@@ -107,16 +112,40 @@ fn say(place: Place, subject: Subject, word: Word, line: &mut [u8]) -> Turn
     }
 }
 
-// After the head, or what there was of it: the version byte of the train is written.
-fn head_step(place: Place, got: &[u8], written: &mut [u8], line: &mut [u8]) -> Turn
-    requires { ⌜ (length (now written) ≡ recordRoom) × (length (now line) ≡ lineBytes) ⌝ }
-    ensures { λ r. ⌜ Gives (headTold place (headIn (now (got .entry)))) r (now (line .entry)) (now (line .exit))
-        × (now (written .exit) ≡ front (headTold place (headIn (now (got .entry))) .written) (now (written .entry))) ⌝ }
+// After the version byte, if there was one: the rest of the head is read.
+fn version_step(place: Place, got: &[u8], line: &mut [u8]) -> Turn
+    requires { ⌜ length (now line) ≡ lineBytes ⌝ }
+    ensures { λ r. ⌜ Gives (versionTold place (versionIn (now (got .entry)))) r (now (line .entry)) (now (line .exit)) ⌝ }
 {
-    match input::read_pack_head(got) {
+    match input::read_version(got) {
+        VersionRead::Other => say(place, Subject::Input, Word::NoHead, line),
+        VersionRead::Known(version) => {
+            let width = input::mtu_width(version);
+            Turn {
+                place: awaiting(place, Wait::Head(version)),
+                order: turns::ask(0, width + train::NUMBER_WIDTH),
+            }
+        }
+    }
+}
+
+// After the rest of the head, or what there was of it: the version byte of the train is written.
+fn head_step(
+    place: Place,
+    version: InputVersion,
+    got: &[u8],
+    written: &mut [u8],
+    line: &mut [u8],
+) -> Turn
+    requires { ⌜ (length (now written) ≡ recordRoom) × (length (now line) ≡ lineBytes) ⌝ }
+    ensures { λ r. ⌜ Gives (headTold place (headAfter version (now (got .entry)))) r (now (line .entry)) (now (line .exit))
+        × (now (written .exit) ≡ front (headTold place (headAfter version (now (got .entry))) .written) (now (written .entry))) ⌝ }
+{
+    match input::read_head(got, version) {
         PackHeadRead::NoHead => say(place, Subject::Input, Word::NoHead, line),
         PackHeadRead::Head(head) => {
-            written[0] = train::TRAIN_VERSION;
+            let train_head = train::head_for(head.mtu);
+            written[0] = train_head.version;
             Turn {
                 place: Place {
                     wait: Wait::Length,
@@ -191,8 +220,8 @@ fn record_turn(
     plan: &[u32],
     written: &mut [u8],
 ) -> Turn
-    requires { ⌜ Ready (place .mtu) progress (now unit) (now obus) (now plan) ⌝ }
-    requires { ⌜ (progress .packet < progress .packets) × (length (now written) ≡ recordRoom) ⌝ }
+    requires { ⌜ LentPackets (place .mtu) progress (now unit) (now obus) (now plan) (now written) ⌝ }
+    requires { ⌜ progress .packet < progress .packets ⌝ }
     ensures { λ r. ⌜ ((line : List ℕ) → Gives (packetTold place progress (payloadsOf (place .mtu) (now (unit .entry)))) r line line)
         × (now (written .exit) ≡ front (packetTold place progress (payloadsOf (place .mtu) (now (unit .entry))) .written) (now (written .entry)))
         × ReadyAt (r .place) (now (unit .entry)) (now (obus .entry)) (now (plan .entry)) ⌝ }
@@ -200,13 +229,14 @@ fn record_turn(
     let listed = progress.obus * obu::OBU_NUMBERS;
     let recorded = progress.packets * packetizer::PLAN_NUMBERS;
     let k = progress.packet;
+    let train_head = train::head_for(place.mtu);
     let end = unit::put_record(
         place.mtu,
         unit,
         &obus[..listed],
         &plan[..recorded],
         k,
-        train::LENGTH_WIDTH,
+        train_head.width,
         place.number,
         written,
     );
@@ -236,8 +266,7 @@ fn packet_step(
     plan: &[u32],
     written: &mut [u8],
 ) -> Turn
-    requires { ⌜ Ready (place .mtu) progress (now unit) (now obus) (now plan) ⌝ }
-    requires { ⌜ length (now written) ≡ recordRoom ⌝ }
+    requires { ⌜ LentPackets (place .mtu) progress (now unit) (now obus) (now plan) (now written) ⌝ }
     ensures { λ r. ⌜ ((line : List ℕ) → Gives (packetTold place progress (payloadsOf (place .mtu) (now (unit .entry)))) r line line)
         × (now (written .exit) ≡ front (packetTold place progress (payloadsOf (place .mtu) (now (unit .entry))) .written) (now (written .entry)))
         × ReadyAt (r .place) (now (unit .entry)) (now (obus .entry)) (now (plan .entry)) ⌝ }
@@ -248,32 +277,6 @@ fn packet_step(
     Turn {
         place: following(place),
         order: turns::ask(0, input::UNIT_WIDTH),
-    }
-}
-
-// What a run reads where it stands, for the line of a failed read.
-fn read_subject(wait: Wait, k: u64) -> Subject
-    ensures { λ r. ⌜ r ≡ readOf wait k ⌝ }
-{
-    match wait {
-        Wait::Head => Subject::Input,
-        Wait::Length => Subject::Unit(k),
-        Wait::Unit(_) => Subject::Unit(k),
-        Wait::Packets(_) => Subject::Unit(k),
-        Wait::Nothing => Subject::Unit(k),
-    }
-}
-
-// What was written before a run stands there, for the line of a failed write: the version byte, or a record of unit k.
-fn written_subject(wait: Wait, k: u64) -> Subject
-    ensures { λ r. ⌜ r ≡ writtenOf wait k ⌝ }
-{
-    match wait {
-        Wait::Head => Subject::Train,
-        Wait::Length => Subject::Train,
-        Wait::Unit(_) => Subject::Unit(k),
-        Wait::Packets(_) => Subject::Unit(k),
-        Wait::Nothing => Subject::Unit(k),
     }
 }
 
@@ -298,15 +301,16 @@ pub fn step(
     let count = place.count;
     match came {
         Came::ReadFailed => {
-            let about = read_subject(wait, count);
+            let about = subjects::read_subject(wait, count);
             say(place, about, Word::ReadFailed, line)
         }
         Came::WriteFailed => {
-            let about = written_subject(wait, count);
+            let about = subjects::written_subject(wait, count);
             say(place, about, Word::WriteFailed, line)
         }
         Came::Read(n) => match wait {
-            Wait::Head => head_step(place, &input[..n], written, line),
+            Wait::Version => version_step(place, &input[..n], line),
+            Wait::Head(version) => head_step(place, version, &input[..n], written, line),
             Wait::Length => length_step(place, &input[..n], line),
             Wait::Unit(stated) => unit_step(place, stated, &input[..n], obus, plan, line),
             Wait::Packets(progress) => {

@@ -11,7 +11,7 @@ use lib.Seq.{sets, sets-eq}
 use lib.Dec.{ltb, leb}
 use borrow.Author.Tests.{lt-ltb, le-ltb, ltb-true, ltb-false, le-leb, lt-leb}
 use Rattle.base.specs.Answers.{Answer, given, refused, stored}
-use Rattle.base.specs.Lists.{front, joined}
+use Rattle.base.specs.Lists.{joined}
 use Rattle.base.proofs.Tests.{split-on}
 use Rattle.packetizer.specs.Call.{unitPlan, samePlan}
 use Rattle.packetizer.specs.declared.Planned.{Planned}

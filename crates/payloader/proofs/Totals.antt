@@ -1,17 +1,16 @@
 -- How many bytes payloads take, and all payloads one after the other. Assumes nothing.
-use mathlib.Core.Path.{_≡_, refl, sym, ap, ap₂, subst, _∙_}
-use Prim.Native.Nat.{ℕ, zero, suc, _+_, _-_, _≤_, _<_}
+use mathlib.Core.Path.{_≡_, refl, sym, ap, ap₂, _∙_}
+use Prim.Native.Nat.{ℕ, zero, suc, _+_, _-_, _*_, _≤_, _<_}
 use native.Mathlib.Nat.{add-zero}
 use native.Mathlib.Numerals.{add-one}
 use native.Mathlib.Omega.{arith}
 use mathlib.Core.List.{List, [], _∷_, _++_, flatMap}
 use mathlib.Core.Bool.{Bool, true, false, cond}
 use lib.ListN.{length, getD, take, drop, length-append, length-map, drop-of-length-le}
-use lib.Seq.{drop-cons, take-suc, sets}
+use lib.Seq.{drop-cons, take-suc}
 use lib.Dec.{ltb, eqb}
 use borrow.Author.Tests.{ne-eqb}
 use Rattle.base.specs.Lists.{joined}
-use Rattle.base.proofs.Storing.{Storing, storing-first, storing-next, storing-done}
 use Rattle.base.proofs.Tests.{by-cond}
 use Rattle.leb128.specs.Field.{encode}
 use Rattle.obu.specs.Unit.{unitLimit, obusOf}
@@ -28,8 +27,11 @@ use Rattle.packetizer.specs.Records.{noPacket}
 use Rattle.packetizer.specs.declared.PacketMetadata.{PacketMetadata}
 use Rattle.packetizer.proofs.Bodies.{elements-count}
 use Rattle.packetizer.proofs.Turns.{size-at}
-use Rattle.packetizer.proofs.Starts.{planned-append, plan-starts}
-use Rattle.payloader.specs.Payload.{payloadAt, startAt, payloadsFrom, payloadsOf}
+use Rattle.packetizer.proofs.Starts.{planned-append}
+use Rattle.packetizer.proofs.Totals.{packet-most}
+use Rattle.packetizer.proofs.UnitLaws.{unit-positive}
+use Rattle.packetizer.proofs.Calls.{unit-total}
+use Rattle.payloader.specs.Payload.{payloadAt, payloadsFrom, payloadsOf}
 use Rattle.payloader.proofs.Bodies.{part, part-length, body, body-two, body-last}
 use Rattle.payloader.proofs.Packets.{packet-sound, payload-is}
 
@@ -127,6 +129,12 @@ module _ (mtu : ℕ) (unit : List ℕ) (small : length unit ≤ unitLimit) (byte
       let paid : p .«packet_size» ≡ elementBytes (elementsOf (sizesOf unit) p) + fieldBytes (ltb mostCounted n) (elementsOf (sizesOf unit) p) =
       s .paid ∙ ap (λ (x : ℕ). elementBytes (elementsOf (sizesOf unit) p) + fieldBytes (ltb mostCounted x) (elementsOf (sizesOf unit) p)) z in
       ap length (payload-is mtu unit k small there) ∙ omega (arith, b, paid)
+
+  -- whatever the mtu, it is no longer than the unit and a length field for each OBU
+  pub payload-most : (k : ℕ) → k < length (unitPlan mtu unit) → length (payloadAt mtu unit k) ≤ 1 + length unit + 5 * length (obusOf unit)
+  payload-most k there =
+      let p = getD (unitPlan mtu unit) k noPacket in
+      omega (arith, payload-length k there, packet-most (mtu - 1) (sizesOf unit) (unit-positive unit) p (packet-sound mtu unit k small there), unit-total unit, length-map (obusOf unit) (λ (o : Obu). o .size))
 
   -- together they have as many bytes as the plan says
   rest-counted : (n k : ℕ) → k + n ≡ length (unitPlan mtu unit) → length (rest mtu unit k) ≡ plannedBytes (drop k (unitPlan mtu unit))

@@ -40,8 +40,8 @@ use Rattle.train.specs.Paper as trains
 use Rattle.train.specs.declared.TrainHead.{TrainHead}
 use Rattle.train.specs.declared.HeadRead.{HeadRead}
 use Rattle.train.specs.declared.HeadRead.the-variants as head
-use Rattle.train.specs.declared.LengthRead.{LengthRead}
-use Rattle.train.specs.declared.LengthRead.the-variants as stated
+use Rattle.train.specs.declared.FieldsRead.{FieldsRead}
+use Rattle.train.specs.declared.FieldsRead.the-variants as fields
 use Rattle.train.specs.declared.RecordRead.{RecordRead}
 use Rattle.train.specs.declared.RecordRead.the-variants as found
 
@@ -166,19 +166,19 @@ head-one = tells-apart trains.paperHead headBack undone
     undone (head.Train h) = refl
     undone (head.Refused r) = ap head.Refused (number-names r)
 
-statedBack : train.Length → LengthRead
-statedBack train.over = stated.End
-statedBack (train.stated n) = stated.Stated (record { bytes = n })
-statedBack (train.bad n) = stated.Refused (named n)
+fieldsBack : train.Fields → FieldsRead
+fieldsBack train.over = fields.End
+fieldsBack (train.before f) = fields.Fields f
+fieldsBack (train.bad n) = fields.Refused (named n)
 
-pub stated-one : (a b : LengthRead) → trains.paperLength a ≡ trains.paperLength b → a ≡ b
-unfolding statedBack
-stated-one = tells-apart trains.paperLength statedBack undone
+pub fields-one : (a b : FieldsRead) → trains.paperFields a ≡ trains.paperFields b → a ≡ b
+unfolding fieldsBack
+fields-one = tells-apart trains.paperFields fieldsBack undone
   where
-    undone : (r : LengthRead) → statedBack (trains.paperLength r) ≡ r
-    undone stated.End = refl
-    undone (stated.Stated s) = refl
-    undone (stated.Refused r) = ap stated.Refused (number-names r)
+    undone : (r : FieldsRead) → fieldsBack (trains.paperFields r) ≡ r
+    undone fields.End = refl
+    undone (fields.Fields f) = refl
+    undone (fields.Refused r) = ap fields.Refused (number-names r)
 
 foundBack : train.Front → RecordRead
 foundBack train.ends = found.End

@@ -28,7 +28,8 @@ use Rattle.receiver.specs.Call.{After}
 use Rattle.receiver.specs.declared.Received.{Received}
 use Rattle.receiver.proofs.receive as receive
 use Rattle.train.proofs.read_head as readHead
-use Rattle.train.proofs.read_length as readLength
+use Rattle.train.proofs.head_for as headFor
+use Rattle.train.proofs.read_fields as readFields
 use Rattle.train.proofs.read_record as readRecord
 use Rattle.train.proofs.record_head as recordHead
 use Rattle.turns.specs.declared.Order.{Order}
@@ -40,7 +41,7 @@ use Rattle.listing.proofs.start as planlistStart
 use Rattle.unpacking.proofs.start as unpackStart
 use Rattle.settled.specs.Settled.{Settled, SettledBy, SamePart}
 use Rattle.settled.proofs.Law.{meet, settles}
-use Rattle.settled.proofs.Answers.{size-one, list-one, plan-one, header-one, write-one, walk-one, receipt-one, head-one, stated-one, found-one}
+use Rattle.settled.proofs.Answers.{size-one, list-one, plan-one, header-one, write-one, walk-one, receipt-one, head-one, fields-one, found-one}
 
 pub read-leb128 : Settled readLeb128.ended (λ M. readLeb128.clauses)
 read-leb128 =
@@ -114,16 +115,20 @@ received =
 pub read-head : Settled readHead.ended (λ M. readHead.clauses)
 read-head = settles readHead.ended _ _ _ (λ M 𝓤 H A mem run κs a. refl) (λ κs a x y p q. (head-one _ _ (meet p q), refl))
 
-pub read-length : Settled readLength.ended (λ M. readLength.clauses)
-read-length =
-    settles readLength.ended _ _ _ (λ M 𝓤 H A mem run κs a. refl) (λ κs a x y p q. (stated-one _ _ (meet p q), refl))
+pub head-for : Settled headFor.ended (λ M. headFor.clauses)
+head-for = settles headFor.ended _ _ _ (λ M 𝓤 H A mem run κs a. refl) (λ κs a x y p q. (meet p q, refl))
+
+pub read-fields : Settled readFields.ended (λ M. readFields.clauses)
+read-fields =
+    settles readFields.ended _ _ _ (λ M 𝓤 H A mem run κs a. refl) (λ κs a x y p q. (fields-one _ _ (meet p q), refl))
 
 pub read-record : Settled readRecord.ended (λ M. readRecord.clauses)
 read-record =
     settles readRecord.ended _ _ _ (λ M 𝓤 H A mem run κs a. refl) (λ κs a x y p q. (found-one _ _ (meet p q), refl))
 
 pub record-head : Settled recordHead.ended (λ M. recordHead.clauses)
-record-head = settles recordHead.ended _ _ _ (λ M 𝓤 H A mem run κs a. refl) (λ κs a x y p q. (meet p q, refl))
+record-head =
+    settles recordHead.ended _ _ _ (λ M 𝓤 H A mem run κs a. refl) (λ κs a x y p q. (refl, λ i. (tt, (tt, (tt, (meet p q i, tt))))))
 
 -- ---- what each program begins with
 

@@ -81,9 +81,9 @@ pub train-record : Settled trainRecord.ended (λ M. trainRecord.clauses)
 train-record =
     settles trainRecord.ended _ _ _ (λ M 𝓤 H A mem run κs a. refl) (λ κs a x y p q. (
       meet (p .0) (q .0),
-      λ i. (tt, (tt, (meet (p .1) (q .1) i, tt))),
+      λ i. (tt, (tt, (tt, (meet (p .1) (q .1) i, tt)))),
     ))
 
 pub record-head : Settled recordHead.ended (λ M. recordHead.clauses)
 record-head =
-    settles recordHead.ended _ _ _ (λ M 𝓤 H A mem run κs a. refl) (λ κs a x y p q. (refl, λ i. (tt, (tt, (meet p q i, tt)))))
+    settles recordHead.ended _ _ _ (λ M 𝓤 H A mem run κs a. refl) (λ κs a x y p q. (refl, λ i. (tt, (tt, (tt, (meet p q i, tt))))))

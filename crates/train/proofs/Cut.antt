@@ -1,46 +1,38 @@
 -- Cut anywhere, a train gives a prefix of its packets: what stands before a bad record stands (T3). Over the width of the length field. Assumes nothing.
 use mathlib.Core.Path.{_≡_, refl, sym, ap, _∙_}
-use Prim.Native.Nat.{ℕ, zero, suc, _+_, _≤_}
+use Prim.Native.Nat.{ℕ, zero, suc, _+_}
 use native.Mathlib.Omega.{arith}
 use mathlib.Core.List.{List, [], _∷_, _++_}
 use lib.ListN.{length, take, drop, length-append, length-drop}
 use lib.Seq.{take-append-le, drop-append-le}
 use Rattle.base.specs.Answers.{Answer, given, refused}
-use Rattle.base.specs.BigEndian.{valueOf}
 use Rattle.base.specs.Lists.{Prefix}
 use Rattle.base.specs.Streams.{item}
 use Rattle.base.proofs.Lists.{prefix-none}
 use Rattle.base.proofs.Streams.{Same, stream-cut}
-use Rattle.train.specs.Train.{Numbered, numberWidth, stated, lengthOf, Front, ends, holds, stops, bodyOf, frontBy, frontOf, packetIn, ended, recordBy, recordNext, headWith, headOf, trainBy, trainIn, standing}
+use Rattle.train.specs.Train.{Numbered, numberWidth, before, fieldsOf, Front, ends, holds, stops, frontBy, frontOf, packetIn, ended, recordBy, recordNext, headWith, headOf, trainBy, trainIn, standing}
 use Rattle.train.specs.declared.TrainHead.{TrainHead}
+use Rattle.train.specs.declared.RecordFields.{RecordFields}
 use Rattle.train.specs.declared.RecordHead.{RecordHead}
-use Rattle.train.proofs.Reading.{length-stated, stated-within, body-found, body-holds}
-use Rattle.train.proofs.Stepping.{front-by, front-spans}
+use Rattle.train.proofs.Reading.{fields-state, held-whole}
+use Rattle.train.proofs.Stepping.{fields-first, front-by, front-spans}
 
 -- ---- more bytes change nothing at the front, where a packet is held
 
-length-more : (w : ℕ) (l m : List ℕ) (n : ℕ) → stated n ≡ lengthOf w l → stated n ≡ lengthOf w (l ++ m)
-length-more w l m n e =
-    let s = stated-within w l n e in
-    let k : length (l ++ m) ≡ length l + length m = length-append l m in
-    length-stated w (l ++ m) (λ z. omega arith) n (omega arith) (s .3 ∙ sym (ap valueOf (take-append-le w l m (s .0)))) (s .1)
-
-body-more : (n at : ℕ) (l m : List ℕ) (h : RecordHead) → numberWidth ≤ n → holds h ≡ bodyOf n at l → holds h ≡ bodyOf n at (l ++ m)
-body-more n at l m h p e =
-    let b = body-holds n at l h e in
-    let k : length (l ++ m) ≡ length l + length m = length-append l m in
+fields-more : (w : ℕ) (l m : List ℕ) {f : RecordFields} → before f ≡ fieldsOf w l → before f ≡ fieldsOf w (l ++ m)
+fields-more w l m e =
     e
-    ∙ sym (body-found n at l (valueOf (take numberWidth l)) (b .0) refl)
-    ∙ body-found n at (l ++ m) (valueOf (take numberWidth l)) (omega arith) (sym (ap valueOf (take-append-le numberWidth l m (omega arith))))
+    ∙ sym (fields-first w l)
+    ∙ ap (fieldsOf w) (sym (take-append-le (w + numberWidth) l m (fields-state e .there)))
+    ∙ fields-first w (l ++ m)
 
 front-more : (w at : ℕ) (l m : List ℕ) (h : RecordHead) → frontOf w at l ≡ holds h → frontOf w at (l ++ m) ≡ holds h
 front-more w at l m h e =
     front-by w at l h e (frontOf w at (l ++ m) ≡ holds h)
-    (λ n q p.
-    let s = stated-within w l n q in
-    ap (frontBy w at (l ++ m)) (sym (length-more w l m n q))
-    ∙ ap (bodyOf n (at + w)) (drop-append-le w l m (s .0))
-    ∙ sym (body-more n (at + w) (drop w l) m h (omega arith) p))
+    (λ f q k.
+    ap (frontBy w at (l ++ m)) (sym (fields-more w l m q))
+    ∙ sym (held-whole w at (l ++ m) f (omega (arith, k .0, length-append l m)))
+    ∙ ap holds (sym (k .1)))
 
 packet-more : (w : ℕ) (l m : List ℕ) (h : RecordHead) → frontOf w 0 l ≡ holds h → packetIn (l ++ m) h ≡ packetIn l h
 packet-more w l m h e =

@@ -5,3 +5,4 @@ pub mod Reading
 pub mod Stepping
 pub mod Written
 pub mod Cut
+pub mod Versions

@@ -7,17 +7,20 @@ use native.Mathlib.Omega.{arith}
 use mathlib.Core.List.{List, [], _∷_, _++_, append-nil, append-assoc, flatMap}
 use lib.ListN.{length, take, drop, length-append}
 use lib.Seq.{take-at, drop-at}
+use lib.Dec.{ltb}
 use Rattle.base.specs.Answers.{given}
-use Rattle.base.specs.BigEndian.{bigEndian, valueOf}
+use Rattle.base.specs.BigEndian.{bigEndian, valueOf, valueAt}
 use Rattle.base.specs.Streams.{streamFrom}
 use Rattle.base.proofs.BigEndian.{big-length, value-back}
-use Rattle.train.specs.Train.{Numbered, ended, trainHead, numberWidth, stated, lengthOf, holds, bodyOf, frontBy, frontOf, recordFields, recordBytes, packetIn, recordsOf, headWith, headOf, trainOf, trainBy, trainIn}
+use Rattle.base.proofs.Tests.{by-cond}
+use Rattle.train.specs.Train.{Numbered, ended, shortPayload, headFor, numberWidth, holds, frontBy, frontOf, recordFields, recordBytes, packetIn, recordsOf, headWith, headOf, trainOf, trainBy, trainIn}
 use Rattle.train.specs.Laws.{Known, Fits, AllFit}
 use Rattle.train.specs.declared.TrainHead.{TrainHead}
+use Rattle.train.specs.declared.RecordFields.{RecordFields}
 use Rattle.train.specs.declared.RecordHead.{RecordHead}
 use Rattle.train.proofs.Fields.{fields-length}
-use Rattle.train.proofs.Reading.{length-stated, body-found}
-use Rattle.train.proofs.Stepping.{onward, records-step, before}
+use Rattle.train.proofs.Reading.{fields-there, held-whole}
+use Rattle.train.proofs.Stepping.{onward, records-step, chain}
 
 -- ---- what is written reads back
 
@@ -25,9 +28,12 @@ width-some : (w : ℕ) (p : Numbered) → Fits w p → 1 ≤ w
 width-some zero p f = absurd (omega (arith, f .short))
 width-some (suc w) p f = omega arith
 
--- the length that a record of these packets states
+-- the length that a record of these packets states, and what is read before its payload
 abbrev statedBy : Numbered → ℕ
 statedBy p = numberWidth + length (p .payload)
+
+abbrev fieldsFor : Numbered → RecordFields
+fieldsFor p = record { number = p .number; length = statedBy p - numberWidth }
 
 abbrev writtenHead : ℕ → Numbered → RecordHead
 writtenHead w p = record { number = p .number; start = 0 + w + numberWidth; length = statedBy p - numberWidth }
@@ -37,39 +43,36 @@ module _ (w : ℕ) (p : Numbered) (rest : List ℕ) (f : Fits w p) where
   after : List ℕ
   after = bigEndian numberWidth (p .number) ++ (p .payload ++ rest)
 
-  fields : recordBytes w p ++ rest ≡ bigEndian w (statedBy p) ++ after
-  unfolding after
-  fields = simp append-assoc
+  all : List ℕ
+  all = bigEndian w (statedBy p) ++ after
 
-  after-length : length after ≡ statedBy p + length rest
-  unfolding after
-  after-length = simp length-append (omega (arith, big-length numberWidth (p .number)))
+  is-all : recordBytes w p ++ rest ≡ all
+  unfolding all after
+  is-all = simp append-assoc
 
-  length-written : lengthOf w (bigEndian w (statedBy p) ++ after) ≡ stated (statedBy p)
-  length-written =
-      let l : List ℕ = bigEndian w (statedBy p) ++ after in
-      let a : length l ≡ w + length after = length-append (bigEndian w (statedBy p)) after ∙ omega (arith, big-length w (statedBy p)) in
-      let v : valueOf (take w l) ≡ statedBy p =
-      ap valueOf (take-at (bigEndian w (statedBy p)) after w (big-length w (statedBy p))) ∙ value-back w (statedBy p) (f .short) in
-      let k : length after ≡ statedBy p + length rest = after-length in
-      sym (length-stated w l (λ e. omega (arith, f .some)) (statedBy p) (omega arith) (sym v) (omega (arith, f .some)))
+  all-length : length all ≡ w + statedBy p + length rest
+  unfolding all after
+  all-length = simp length-append (omega (arith, big-length w (statedBy p), big-length numberWidth (p .number)))
 
-  body-written : bodyOf (statedBy p) (0 + w) after ≡ holds (writtenHead w p)
-  unfolding after
-  body-written =
-      let v : valueOf (take numberWidth after) ≡ p .number =
-      ap valueOf (take-at (bigEndian numberWidth (p .number)) (p .payload ++ rest) numberWidth (big-length numberWidth (p .number)))
-      ∙ value-back numberWidth (p .number) (f .numbered) in
-      let k : length after ≡ statedBy p + length rest = after-length in
-      sym (body-found (statedBy p) (0 + w) after (p .number) (omega arith) (sym v))
+  length-written : valueAt all 0 w ≡ statedBy p
+  unfolding all
+  length-written = ap valueOf (take-at (bigEndian w (statedBy p)) after w (big-length w (statedBy p))) ∙ value-back w (statedBy p) (f .short)
+
+  number-written : valueAt all w numberWidth ≡ p .number
+  unfolding all after
+  number-written =
+      ap (λ (l : List ℕ). valueOf (take numberWidth l)) (drop-at (bigEndian w (statedBy p)) after w (big-length w (statedBy p)))
+      ∙ ap valueOf (take-at (bigEndian numberWidth (p .number)) (p .payload ++ rest) numberWidth (big-length numberWidth (p .number)))
+      ∙ value-back numberWidth (p .number) (f .numbered)
 
   front-written : frontOf w 0 (recordBytes w p ++ rest) ≡ holds (writtenHead w p)
   front-written =
-      let l : List ℕ = bigEndian w (statedBy p) ++ after in
-      ap (frontOf w 0) fields
-      ∙ ap (frontBy w 0 l) length-written
-      ∙ ap (bodyOf (statedBy p) (0 + w)) (drop-at (bigEndian w (statedBy p)) after w (big-length w (statedBy p)))
-      ∙ body-written
+      let n = all-length in
+      let g =
+      fields-there w all (λ e. omega (arith, f .some)) (omega arith) (sym length-written) (omega (arith, f .some)) (omega arith) (sym number-written) in
+      ap (frontOf w 0) is-all
+      ∙ ap (frontBy w 0 all) (sym g)
+      ∙ sym (held-whole w 0 all (fieldsFor p) (omega arith))
 
   head-size : length (recordFields w (statedBy p) (p .number)) ≡ 0 + w + numberWidth
   head-size = omega (arith, fields-length w (statedBy p) (p .number))
@@ -87,11 +90,11 @@ module _ (w : ℕ) (p : Numbered) (rest : List ℕ) (f : Fits w p) where
       drop-at (recordBytes w p) rest (0 + w + numberWidth + (statedBy p - numberWidth))
       (length-append (recordFields w (statedBy p) (p .number)) (p .payload) ∙ omega (arith, head-size))
 
-  pub record-then : recordsOf w (recordBytes w p ++ rest) ≡ before p (recordsOf w rest)
+  pub record-then : recordsOf w (recordBytes w p ++ rest) ≡ chain p (recordsOf w rest)
   record-then =
       records-step w (recordBytes w p ++ rest)
       ∙ ap (onward w (recordBytes w p ++ rest)) front-written
-      ∙ ap₂ before packet-written (ap (recordsOf w) rest-written)
+      ∙ ap₂ chain packet-written (ap (recordsOf w) rest-written)
 
 pub records-then : (w : ℕ) (ps : List Numbered) (rest : List ℕ) → AllFit w ps
     → recordsOf w (flatMap (recordBytes w) ps ++ rest)
@@ -101,12 +104,12 @@ records-then w [] rest f = refl
 records-then w (p ∷ ps) rest f =
     ap (recordsOf w) (append-assoc (recordBytes w p) (flatMap (recordBytes w) ps) rest)
     ∙ record-then w p (flatMap (recordBytes w) ps ++ rest) (f .0)
-    ∙ ap (before p) (records-then w ps rest (f .1))
+    ∙ ap (chain p) (records-then w ps rest (f .1))
 
--- the head that is written is taken
-pub head-taken : Known trainHead
+-- the heads that are written are taken, and their length fields can state what a payload within the limit is
+pub head-taken : (most : ℕ) → Known (headFor most)
 unfolding headWith
-head-taken = refl
+head-taken most = by-cond Known (ltb shortPayload most) _ _ (λ t. refl) (λ t. refl)
 
 -- in a file of any head that the reader takes
 pub written-read : (h : TrainHead) (ps : List Numbered) → Known h → AllFit (h .width) ps → trainIn (trainOf h ps) ≡ given (record { items = ps; stop = ended })

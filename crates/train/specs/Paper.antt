@@ -5,8 +5,8 @@ use Rattle.train.specs.Train as train
 use Rattle.train.specs.declared.TrainHead.{TrainHead}
 use Rattle.train.specs.declared.HeadRead.{HeadRead}
 use Rattle.train.specs.declared.HeadRead.the-variants as head
-use Rattle.train.specs.declared.LengthRead.{LengthRead}
-use Rattle.train.specs.declared.LengthRead.the-variants as length
+use Rattle.train.specs.declared.FieldsRead.{FieldsRead}
+use Rattle.train.specs.declared.FieldsRead.the-variants as fields
 use Rattle.train.specs.declared.RecordRead.{RecordRead}
 use Rattle.train.specs.declared.RecordRead.the-variants as found
 
@@ -14,10 +14,10 @@ abbrev pub paperHead : HeadRead → Answer TrainHead
 paperHead (head.Train h) = given h
 paperHead (head.Refused r) = refused (numberOf r) 0
 
-abbrev pub paperLength : LengthRead → train.Length
-paperLength length.End = train.over
-paperLength (length.Stated s) = train.stated (s .bytes)
-paperLength (length.Refused r) = train.bad (numberOf r)
+abbrev pub paperFields : FieldsRead → train.Fields
+paperFields fields.End = train.over
+paperFields (fields.Fields f) = train.before f
+paperFields (fields.Refused r) = train.bad (numberOf r)
 
 abbrev pub paperRecord : RecordRead → train.Front
 paperRecord found.End = train.ends

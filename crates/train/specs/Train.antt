@@ -5,26 +5,24 @@ use mathlib.Core.Bool.{cond}
 use lib.ListN.{length, take, drop}
 use lib.Dec.{ltb, eqb}
 use Rattle.base.specs.Answers.{Answer, given, refused}
-use Rattle.base.specs.BigEndian.{bigEndian, valueOf}
+use Rattle.base.specs.BigEndian.{bigEndian, valueAt}
 use Rattle.base.specs.Streams.{Next, item, halt, Stream, streamOf}
 use Rattle.train.specs.declared.TrainHead.{TrainHead}
+use Rattle.train.specs.declared.RecordFields.{RecordFields}
 use Rattle.train.specs.declared.RecordHead.{RecordHead}
 
 -- ---- the head
 
--- the version byte, and the width of the length fields of such a train
-abbrev pub trainVersion : ℕ
-trainVersion = 1
+-- the two versions: the version byte, and the width of the length fields of such a train
+abbrev pub shortHead : TrainHead
+shortHead = record { version = 1; width = 2 }
 
-abbrev pub lengthWidth : ℕ
-lengthWidth = 2
-
-abbrev pub trainHead : TrainHead
-trainHead = record { version = trainVersion; width = lengthWidth }
+abbrev pub longHead : TrainHead
+longHead = record { version = 2; width = 4 }
 
 -- what a version byte tells, or R21
 unfoldable pub headWith : ℕ → Answer TrainHead
-headWith v = cond (eqb v trainVersion) (given trainHead) (refused 21 0)
+headWith v = cond (eqb v (shortHead .version)) (given shortHead) (cond (eqb v (longHead .version)) (given longHead) (refused 21 0))
 
 -- the head of a file
 unfoldable pub headOf : List ℕ → Answer TrainHead
@@ -32,11 +30,15 @@ headOf [] = refused 21 0
 headOf (v ∷ l) = headWith v
 
 -- the width that a number given from outside counts as: 4, and else 2
-abbrev pub longWidth : ℕ
-longWidth = 4
-
 abbrev pub countedWidth : ℕ → ℕ
-countedWidth w = cond (eqb w longWidth) longWidth lengthWidth
+countedWidth w = cond (eqb w (longHead .width)) (longHead .width) (shortHead .width)
+
+-- the longest payload that a record of version 1 has room for (L18), and the head of a train whose payloads have at most so many bytes
+abbrev pub shortPayload : ℕ
+shortPayload = 65533
+
+abbrev pub headFor : ℕ → TrainHead
+headFor most = cond (ltb shortPayload most) longHead shortHead
 
 -- ---- written
 
@@ -64,18 +66,22 @@ trainOf h packets = h .version ∷ flatMap (recordBytes (h .width)) packets
 
 -- ---- one record, at the front of some bytes
 
--- the length that it states, or the end of the train, or R22 or R23
-pub data Length : Type 0 where
-  over : Length
-  stated : ℕ → Length
-  bad : ℕ → Length
+-- what stands before its payload: the number, and how many bytes the payload has; or the end of the train, or R22 or R23
+pub data Fields : Type 0 where
+  over : Fields
+  before : RecordFields → Fields
+  bad : ℕ → Fields
 
-unfoldable pub lengthOf : ℕ → List ℕ → Length
-lengthOf w [] = over
-lengthOf w (b ∷ l) =
+unfoldable pub fieldsOf : ℕ → List ℕ → Fields
+fieldsOf w [] = over
+fieldsOf w (b ∷ l) =
     cond (ltb (length (b ∷ l)) w)
     (bad 22)
-    (cond (ltb (valueOf (take w (b ∷ l))) leastStated) (bad 23) (stated (valueOf (take w (b ∷ l)))))
+    (cond (ltb (valueAt (b ∷ l) 0 w) leastStated)
+    (bad 23)
+    (cond (ltb (length (b ∷ l)) (w + numberWidth))
+    (bad 22)
+    (before (record { number = valueAt (b ∷ l) w numberWidth; length = valueAt (b ∷ l) 0 w - numberWidth }))))
 
 -- where it holds a packet: number, and start and length of the payload
 pub data Front : Type 0 where
@@ -83,21 +89,21 @@ pub data Front : Type 0 where
   holds : RecordHead → Front
   stops : ℕ → Front
 
--- after the length n: number and payload, which begin at `at`
-unfoldable pub bodyOf : ℕ → ℕ → List ℕ → Front
-bodyOf n at body =
-    cond (ltb (length body) n)
+-- behind these fields: the payload, if it is whole
+unfoldable pub heldBy : ℕ → ℕ → List ℕ → RecordFields → Front
+heldBy w at l f =
+    cond (ltb (length l) (w + numberWidth + f .length))
     (stops 22)
-    (holds (record { number = valueOf (take numberWidth body); start = at + numberWidth; length = n - numberWidth }))
+    (holds (record { number = f .number; start = at + w + numberWidth; length = f .length }))
 
-abbrev pub frontBy : ℕ → ℕ → List ℕ → Length → Front
+abbrev pub frontBy : ℕ → ℕ → List ℕ → Fields → Front
 frontBy w at l over = ends
-frontBy w at l (stated n) = bodyOf n (at + w) (drop w l)
+frontBy w at l (before f) = heldBy w at l f
 frontBy w at l (bad k) = stops k
 
 -- of bytes that begin at `at`
 abbrev pub frontOf : ℕ → ℕ → List ℕ → Front
-frontOf w at l = frontBy w at l (lengthOf w l)
+frontOf w at l = frontBy w at l (fieldsOf w l)
 
 -- ---- all records, up to the end or to the first that is bad
 
@@ -137,3 +143,12 @@ trainIn file = trainBy (drop 1 file) (headOf file)
 abbrev pub standing : Answer Records → List Numbered
 standing (given t) = t .items
 standing (refused n at) = []
+
+-- ---- a reader of version 1 alone
+
+unfoldable pub shortHeadOf : List ℕ → Answer TrainHead
+shortHeadOf [] = refused 21 0
+shortHeadOf (v ∷ l) = cond (eqb v (shortHead .version)) (given shortHead) (refused 21 0)
+
+abbrev pub shortTrainIn : List ℕ → Answer Records
+shortTrainIn file = trainBy (drop 1 file) (shortHeadOf file)

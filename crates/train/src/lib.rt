@@ -5,22 +5,29 @@ use base::big_endian::put_number;
 ghost use mathlib.Core.Path.{_≡_};
 ghost use Prim.Native.Nat.{_+_, _≤_};
 ghost use lib.ListN.{length, drop};
-ghost use Rattle.base.specs.Lists.{Put};
-ghost use Rattle.train.specs.Train.{countedWidth, lengthWidth, numberWidth, leastStated, recordFields, headOf, lengthOf, bodyOf, frontOf};
-ghost use Rattle.train.specs.Paper.{paperHead, paperLength, paperRecord};
+ghost use Rattle.base.specs.Lists.{front, Put};
+ghost use Rattle.train.specs.Train.{headFor, countedWidth, numberWidth, recordFields, headOf, fieldsOf, frontOf};
+ghost use Rattle.train.specs.Paper.{paperHead, paperFields, paperRecord};
 ghost use Rattle.train.specs.Laws.{Writable};
 
-// The version byte, and the width of the length fields of such a train, in bytes; the other width that a reader can be given.
-pub const TRAIN_VERSION: u8 = 1;
+// The two versions: the version byte, and the width of the length fields of such a train, in bytes.
+const SHORT_VERSION: u8 = 1;
 
-pub const LENGTH_WIDTH: usize = 2;
+const SHORT_WIDTH: usize = 2;
+
+const LONG_VERSION: u8 = 2;
 
 const LONG_WIDTH: usize = 4;
 
-// The width of a number; the least length that a record may state.
+// The longest payload that a record of version 1 has room for (L18).
+const SHORT_PAYLOAD: usize = 65533;
+
+// The width of a number; the least length that a record may state; the most bytes that stand before a payload.
 pub const NUMBER_WIDTH: usize = 2;
 
 const LEAST_STATED: usize = 3;
+
+pub const FIELDS_MOST: usize = LONG_WIDTH + NUMBER_WIDTH;
 
 // A train's head: its version, and the width of its length fields.
 pub struct TrainHead {
@@ -33,13 +40,14 @@ pub enum HeadRead {
     Refused(Refusal),
 }
 
-// The length that a record states: the bytes of its number and its payload.
-pub struct StatedLength {
-    pub bytes: usize,
+// What stands before a payload: the packet's number, and how many bytes the payload has.
+pub struct RecordFields {
+    pub number: u16,
+    pub length: usize,
 }
 
-pub enum LengthRead {
-    Stated(StatedLength),
+pub enum FieldsRead {
+    Fields(RecordFields),
     End,
     Refused(Refusal),
 }
@@ -65,13 +73,35 @@ pub fn read_head(bytes: &[u8]) -> HeadRead
         return HeadRead::Refused(Refusal::TrainVersion);
     }
     let version = bytes[0];
-    if version == TRAIN_VERSION {
-        HeadRead::Train(TrainHead {
+    if version == SHORT_VERSION {
+        return HeadRead::Train(TrainHead {
             version: version,
-            width: LENGTH_WIDTH,
-        })
+            width: SHORT_WIDTH,
+        });
+    }
+    if version == LONG_VERSION {
+        return HeadRead::Train(TrainHead {
+            version: version,
+            width: LONG_WIDTH,
+        });
+    }
+    HeadRead::Refused(Refusal::TrainVersion)
+}
+
+// The head of a train whose payloads have at most so many bytes.
+pub fn head_for(most: usize) -> TrainHead
+    ensures { λ r. ⌜ r ≡ headFor most ⌝ }
+{
+    if SHORT_PAYLOAD < most {
+        TrainHead {
+            version: LONG_VERSION,
+            width: LONG_WIDTH,
+        }
     } else {
-        HeadRead::Refused(Refusal::TrainVersion)
+        TrainHead {
+            version: SHORT_VERSION,
+            width: SHORT_WIDTH,
+        }
     }
 }
 
@@ -82,41 +112,32 @@ fn counted_width(width: usize) -> usize
     if width == LONG_WIDTH {
         LONG_WIDTH
     } else {
-        LENGTH_WIDTH
+        SHORT_WIDTH
     }
 }
 
-// The length field of this width at the front of some bytes, or what there is of it. Any width but 4 counts as 2.
-pub fn read_length(bytes: &[u8], width: usize) -> LengthRead
-    ensures { λ r. ⌜ paperLength r ≡ lengthOf (countedWidth width) (now (bytes .entry)) ⌝ }
+// What stands before a payload, with a length field of this width, at the front of some bytes, or what there is of it. Any width but 4
+// counts as 2.
+pub fn read_fields(bytes: &[u8], width: usize) -> FieldsRead
+    ensures { λ r. ⌜ paperFields r ≡ fieldsOf (countedWidth width) (now (bytes .entry)) ⌝ }
 {
     let counted = counted_width(width);
     if bytes.len() == 0 {
-        return LengthRead::End;
+        return FieldsRead::End;
     }
     if bytes.len() < counted {
-        return LengthRead::Refused(Refusal::TrainCut);
+        return FieldsRead::Refused(Refusal::TrainCut);
     }
     let stated = number_at(bytes, 0, counted);
     if stated < LEAST_STATED {
-        return LengthRead::Refused(Refusal::RecordTooShort);
+        return FieldsRead::Refused(Refusal::RecordTooShort);
     }
-    LengthRead::Stated(StatedLength { bytes: stated })
-}
-
-// Number and payload of a record, which stand at the front of some bytes, or what there is of them.
-// Helper: the stated length must be 3 or more.
-pub fn read_body(bytes: &[u8], stated: usize) -> RecordRead
-    requires { ⌜ leastStated ≤ stated ⌝ }
-    ensures { λ r. ⌜ paperRecord r ≡ bodyOf stated 0 (now (bytes .entry)) ⌝ }
-{
-    if bytes.len() < stated {
-        return RecordRead::Refused(Refusal::TrainCut);
+    if bytes.len() < counted + NUMBER_WIDTH {
+        return FieldsRead::Refused(Refusal::TrainCut);
     }
-    let number = number_at(bytes, 0, NUMBER_WIDTH);
-    RecordRead::Found(RecordHead {
+    let number = number_at(bytes, counted, NUMBER_WIDTH);
+    FieldsRead::Fields(RecordFields {
         number: number as u16,
-        start: NUMBER_WIDTH,
         length: stated - NUMBER_WIDTH,
     })
 }
@@ -128,19 +149,19 @@ pub fn read_record(bytes: &[u8], width: usize, at: usize) -> RecordRead
     if bytes.len() <= at {
         return RecordRead::End;
     }
-    match read_length(&bytes[at..], width) {
-        LengthRead::End => RecordRead::End,
-        LengthRead::Refused(refusal) => RecordRead::Refused(refusal),
-        LengthRead::Stated(stated) => {
-            let body = at + counted_width(width);
-            match read_body(&bytes[body..], stated.bytes) {
-                RecordRead::End => RecordRead::End,
-                RecordRead::Refused(refusal) => RecordRead::Refused(refusal),
-                RecordRead::Found(head) => RecordRead::Found(RecordHead {
-                    number: head.number,
-                    start: body + head.start,
-                    length: head.length,
-                }),
+    match read_fields(&bytes[at..], width) {
+        FieldsRead::End => RecordRead::End,
+        FieldsRead::Refused(refusal) => RecordRead::Refused(refusal),
+        FieldsRead::Fields(fields) => {
+            let start = at + counted_width(width) + NUMBER_WIDTH;
+            if bytes.len() - start < fields.length {
+                RecordRead::Refused(Refusal::TrainCut)
+            } else {
+                RecordRead::Found(RecordHead {
+                    number: fields.number,
+                    start: start,
+                    length: fields.length,
+                })
             }
         }
     }
@@ -155,14 +176,14 @@ fn put_fields(out: &mut [u8], at: usize, width: usize, stated: usize, number: u1
     put_number(out, after, NUMBER_WIDTH, number as usize)
 }
 
-// What stands before a payload: the stated length and the number. Any length is written, 0 to 2 too, though no reader takes such a
-// record (R23): a payload of n bytes, 1 or more, states n + 2.
-pub fn record_head(stated: u16, number: u16) -> [u8; 4]
-    ensures { λ r. ⌜ r ≡ recordFields lengthWidth stated number ⌝ }
+// What stands before a payload: the stated length, of which a field of this width has room for the low bytes, and the number. Any width
+// but 4 counts as 2; the other bytes of `head` stay. Any length is written, 0 to 2 too, though no reader takes such a record (R23): a
+// payload of n bytes, 1 or more, states n + 2.
+pub fn record_head(stated: u32, number: u16, width: usize, head: &mut [u8; FIELDS_MOST])
+    ensures { λ _. ⌜ now (head .exit) ≡ front (recordFields (countedWidth width) stated number) (now (head .entry)) ⌝ }
 {
-    let mut head = [0u8; 4];
-    put_fields(&mut head, 0, LENGTH_WIDTH, stated as usize, number);
-    head
+    let counted = counted_width(width);
+    put_fields(head, 0, counted, stated as usize, number);
 }
 
 // Writes what stands before a payload of so many bytes, with a length field of this width, at the cursor `at`, and returns the cursor

@@ -2,5 +2,6 @@
 pub mod Steps
 pub mod LossesLine
 pub mod Turning
+pub mod Packets
 pub mod Runs
 pub mod Rows

@@ -10,11 +10,9 @@ abbrev pub paperStep : RecordStep → unpack.Step Received
 paperStep (step.Taken r) = unpack.takes r
 paperStep (step.PassedOver r) = unpack.passes (numberOf r)
 paperStep (step.Broken r) = unpack.breaks (numberOf r)
-paperStep step.End = unpack.quits
 
 -- a taken packet, as the receive call answers
 abbrev pub answered : unpack.Step Taken → unpack.Step Received
 answered (unpack.takes t) = unpack.takes (receivedOf t)
 answered (unpack.passes n) = unpack.passes n
 answered (unpack.breaks n) = unpack.breaks n
-answered unpack.quits = unpack.quits

@@ -2,11 +2,12 @@
 use Prim.Native.Nat.{ℕ}
 use mathlib.Core.List.{List, [], _∷_, _++_}
 use mathlib.Core.Bool.{Bool, false, cond, _&&_}
-use lib.ListN.{length}
+use lib.ListN.{length, take}
 use lib.Dec.{eqb, ltb}
 use Rattle.base.specs.Answers.{Answer, given, refused}
 use Rattle.base.specs.Words.{ascii}
-use Rattle.train.specs.Train.{Numbered, Front, ends, holds, stops, bodyOf, packetIn, TrainEnd, ended, refusedBy, Records, trainIn, standing}
+use Rattle.train.specs.Train.{Numbered, TrainEnd, ended, refusedBy, Records, trainIn, standing}
+use Rattle.train.specs.declared.RecordFields.{RecordFields}
 use Rattle.receiver.specs.Joining.{label, Held, Lost, fresh}
 use Rattle.receiver.specs.Call.{Incoming, Taken, taken, After, leaves, answering, afterTaking}
 use Rattle.receiver.specs.declared.State.{State}
@@ -17,7 +18,7 @@ use Rattle.turns.specs.declared.Subject.the-variants as subject
 use Rattle.turns.specs.declared.Word.the-variants as word
 use Rattle.unpacking.specs.declared.losses.Losses.{Losses}
 
--- L14, L15: the bytes of a record after its length, and of the fragment store
+-- L14, L15: the bytes of a payload, and of the fragment store
 abbrev pub payloadBytes : ℕ
 payloadBytes = 65536
 
@@ -30,9 +31,9 @@ fragmentStore = 32768
 abbrev pub incoming : Numbered → Incoming
 incoming p = record { label = label (p .number); payload = p .payload }
 
--- what the receiver makes of it, where it holds h
+-- what the receiver makes of it, where it holds h; one whose payload is over the store is passed over as the receiver would (R13)
 abbrev pub turn : Held → Numbered → Answer Taken
-turn h p = taken fragmentStore outputBytes h (incoming p)
+turn h p = cond (ltb payloadBytes (length (p .payload))) (refused 13 0) (taken fragmentStore outputBytes h (incoming p))
 
 -- what it then holds, and what is written; a refused packet is passed over
 abbrev pub heldAfter : Held → Answer Taken → Held
@@ -117,26 +118,28 @@ saidBy (refused n at) = lineText subject.Train (word.Refused n)
 abbrev pub unpackSays : List ℕ → List ℕ
 unpackSays file = saidBy (trainIn file)
 
--- ---- one record, of which number and payload were read
+-- ---- one record, whose number and length were read, and then its payload
 
 -- its packet is taken, or passed over with the number of its refusal; or reading stops
 pub data Step (A : Type 0) : Type 0 where
   takes : A → Step A
   passes : ℕ → Step A
   breaks : ℕ → Step A
-  quits : Step A
 
 abbrev pub stepBy : {A : Type 0} → Answer A → Step A
 stepBy (given a) = takes a
 stepBy (refused n at) = passes n
 
--- by its front: that, with store and output after it, which the receiver alone changes
-abbrev pub stepAt : State → List ℕ → List ℕ → List ℕ → Front → After (Step Taken)
-stepAt state body store out ends = leaves quits store out
-stepAt state body store out (stops k) = leaves (breaks k) store out
-stepAt state body store out (holds h) =
-    answering stepBy (afterTaking (record { state = state; packet = incoming (packetIn body h); store = store; output = out }))
-
--- of a record that states n bytes, where these were read
-unfoldable pub stepOf : State → ℕ → List ℕ → List ℕ → List ℕ → After (Step Taken)
-stepOf state n body store out = stepAt state body store out (bodyOf n 0 body)
+-- where these bytes were read: that, with store and output after it, which the receiver alone changes; the payload may be cut (R22)
+unfoldable pub stepOf : State → RecordFields → List ℕ → List ℕ → List ℕ → After (Step Taken)
+stepOf state f l store out =
+    cond (ltb (length l) (f .length))
+    (leaves (breaks 22) store out)
+    (answering stepBy
+    (afterTaking
+    (record {
+      state = state;
+      packet = incoming (record { number = f .number; payload = take (f .length) l });
+      store = store;
+      output = out;
+    })))

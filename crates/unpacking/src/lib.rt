@@ -1,28 +1,31 @@
-// `unpack` as steps on lent bytes: all that it decides (G1, G5 to G7, G14, G15, L14, L15). The program does as each turn orders.
+// `unpack` as steps on lent bytes: all that it decides (G1, G5 to G7, G14 to G16, L14, L15). The program does as each turn orders.
 mod losses;
+mod passing;
 mod records;
 
+use base::Refusal;
 use losses::Losses;
 use receiver::State;
 use records::RecordStep;
+use train::FieldsRead;
 use train::HeadRead;
-use train::LengthRead;
+use train::RecordFields;
 use turns::Came;
 use turns::Order;
 use turns::Subject;
 use turns::Word;
 ghost use mathlib.Core.Path.{_≡_};
-ghost use Prim.Native.Nat.{_≤_};
 ghost use mathlib.Core.List.{[]};
 ghost use lib.ListN.{length};
-ghost use Rattle.train.specs.Train.{lengthWidth, leastStated, lengthOf, headOf};
+ghost use Rattle.base.specs.Refusals.{numberOf};
+ghost use Rattle.train.specs.Train.{countedWidth, fieldsOf, headOf};
 ghost use Rattle.receiver.specs.Call.{answering};
 ghost use Rattle.turns.specs.Text.{lineBytes};
 ghost use Rattle.turns.specs.Orders.{arrival, says};
 ghost use Rattle.unpacking.specs.Unpack.{outputBytes, stepOf};
-ghost use Rattle.unpacking.specs.Steps.{awaits, first, next, readOf, writtenOf, startsWith, closeTold, versionTold, lengthTold, bodyTold, stepped, PossibleBy, Gives, Comes, Lent};
+ghost use Rattle.unpacking.specs.Steps.{awaits, first, next, readOf, writtenOf, startsWith, closeTold, versionTold, brokenTold, fieldsTold, payloadTold, stepped, Possible, Gives, Comes, Lent};
 
-// The bytes of the version, of a record after its length, of the output, and of the fragment store (L14, L15).
+// The bytes of the version, of a payload, of the output, and of the fragment store (L14, L15).
 const VERSION_BYTES: usize = 1;
 
 pub const PAYLOAD_BYTES: usize = 65536;
@@ -31,12 +34,13 @@ pub const OUTPUT_BYTES: usize = turns::OUTPUT_BYTES;
 
 pub const FRAGMENT_STORE: usize = 32768;
 
-// What a run waits for: the version byte, a record's length, number and payload of a record that states so many bytes, the close
-// of the run, or nothing.
+// What a run waits for: the version byte, what stands before a payload, a payload, so many bytes of one that is read away, the close of
+// the run, or nothing.
 pub enum Wait {
     Version,
-    Length,
-    Body(usize),
+    Fields,
+    Payload(RecordFields),
+    Away(usize),
     Close,
     Nothing,
 }
@@ -79,7 +83,7 @@ fn beginning(place: Place, width: usize) -> Place
     let state = place.state;
     let losses = place.losses;
     Place {
-        wait: Wait::Length,
+        wait: Wait::Fields,
         count: place.count,
         width: width,
         state: state,
@@ -92,7 +96,7 @@ fn following(place: Place, state: State, losses: Losses) -> Place
     ensures { λ r. ⌜ r ≡ next place state losses ⌝ }
 {
     Place {
-        wait: Wait::Length,
+        wait: Wait::Fields,
         count: turns::next_count(place.count),
         width: place.width,
         state: state,
@@ -120,7 +124,7 @@ pub fn start() -> Turn
 
 // The run is at its end: what was lost is said, if anything was.
 fn close(place: Place, line: &mut [u8]) -> Turn
-    requires { ⌜ length (now line) ≡ lineBytes ⌝ }
+    requires { ⌜ (length (now line) ≡ lineBytes) × Possible place ⌝ }
     ensures { λ r. ⌜ Gives (closeTold place) r (now (line .entry)) (now (line .exit)) ⌝ }
 {
     let state = place.state;
@@ -141,7 +145,7 @@ fn close(place: Place, line: &mut [u8]) -> Turn
 
 // A line is said, and then this is waited for; nothing is read.
 fn say(place: Place, wait: Wait, subject: Subject, word: Word, line: &mut [u8]) -> Turn
-    requires { ⌜ (length (now line) ≡ lineBytes) × PossibleBy wait (place .width) ⌝ }
+    requires { ⌜ (length (now line) ≡ lineBytes) × Possible place ⌝ }
     ensures { λ r. ⌜ Gives (says (awaits place wait) subject word 0) r (now (line .entry)) (now (line .exit)) ⌝ }
 {
     Turn {
@@ -150,9 +154,18 @@ fn say(place: Place, wait: Wait, subject: Subject, word: Word, line: &mut [u8]) 
     }
 }
 
+// Reading stops at this record.
+fn stop_at(place: Place, refusal: Refusal, line: &mut [u8]) -> Turn
+    requires { ⌜ (length (now line) ≡ lineBytes) × Possible place ⌝ }
+    ensures { λ r. ⌜ Gives (brokenTold place (numberOf refusal)) r (now (line .entry)) (now (line .exit)) ⌝ }
+{
+    let word = Word::Refused(base::number(refusal));
+    say(place, Wait::Close, Subject::Record(place.count), word, line)
+}
+
 // After the version byte, or nothing.
 fn version_step(place: Place, got: &[u8], line: &mut [u8]) -> Turn
-    requires { ⌜ length (now line) ≡ lineBytes ⌝ }
+    requires { ⌜ (length (now line) ≡ lineBytes) × Possible place ⌝ }
     ensures { λ r. ⌜ Gives (versionTold place (headOf (now (got .entry)))) r (now (line .entry)) (now (line .exit)) ⌝ }
 {
     match train::read_head(got) {
@@ -160,7 +173,7 @@ fn version_step(place: Place, got: &[u8], line: &mut [u8]) -> Turn
             let width = head.width;
             Turn {
                 place: beginning(place, width),
-                order: turns::ask(0, width),
+                order: turns::ask(0, width + train::NUMBER_WIDTH),
             }
         }
         HeadRead::Refused(refusal) => {
@@ -170,62 +183,51 @@ fn version_step(place: Place, got: &[u8], line: &mut [u8]) -> Turn
     }
 }
 
-// After a record's length, or what there was of it.
-fn length_step(place: Place, got: &[u8], line: &mut [u8]) -> Turn
-    requires { ⌜ (length (now line) ≡ lineBytes) × (place .width ≡ lengthWidth) ⌝ }
-    ensures { λ r. ⌜ Gives (lengthTold place (lengthOf (place .width) (now (got .entry)))) r (now (line .entry)) (now (line .exit)) ⌝ }
+// After what stands before a payload, or what there was of it.
+fn fields_step(place: Place, got: &[u8], line: &mut [u8]) -> Turn
+    requires { ⌜ (length (now line) ≡ lineBytes) × Possible place ⌝ }
+    ensures { λ r. ⌜ Gives (fieldsTold place (fieldsOf (countedWidth (place .width)) (now (got .entry)))) r (now (line .entry)) (now (line .exit)) ⌝ }
 {
-    match train::read_length(got, place.width) {
-        LengthRead::End => close(place, line),
-        LengthRead::Refused(refusal) => {
-            let word = Word::Refused(base::number(refusal));
-            say(place, Wait::Close, Subject::Record(place.count), word, line)
-        }
-        LengthRead::Stated(stated) => {
-            let bytes = stated.bytes;
-            Turn {
-                place: awaiting(place, Wait::Body(bytes)),
-                order: turns::ask(0, bytes),
+    match train::read_fields(got, place.width) {
+        FieldsRead::End => close(place, line),
+        FieldsRead::Refused(refusal) => stop_at(place, refusal, line),
+        FieldsRead::Fields(fields) => {
+            let length = fields.length;
+            if PAYLOAD_BYTES < length {
+                passing::read_away(place, length)
+            } else {
+                Turn {
+                    place: awaiting(place, Wait::Payload(fields)),
+                    order: turns::ask(0, length),
+                }
             }
         }
     }
 }
 
-// After number and payload of a record that states so many bytes, or what there was of them.
-fn body_step(
+// After the payload of a record with these fields, or what there was of it.
+fn payload_step(
     place: Place,
-    stated: usize,
+    fields: RecordFields,
     got: &[u8],
     store: &mut [u8],
     out: &mut [u8],
     line: &mut [u8],
 ) -> Turn
-    requires { ⌜ (leastStated ≤ stated) × (length (now out) ≡ outputBytes) × (length (now line) ≡ lineBytes) × (place .width ≡ lengthWidth) ⌝ }
-    ensures { λ r. ⌜ Comes (answering (bodyTold place) (stepOf (place .state) stated (now (got .entry)) (now (store .entry)) (now (out .entry))))
+    requires { ⌜ (length (now out) ≡ outputBytes) × (length (now line) ≡ lineBytes) × Possible place ⌝ }
+    ensures { λ r. ⌜ Comes (answering (payloadTold place) (stepOf (place .state) fields (now (got .entry)) (now (store .entry)) (now (out .entry))))
         r (now (line .entry)) (now (line .exit)) (now (store .exit)) (now (out .exit)) ⌝ }
 {
     let state = place.state;
-    let before = place.losses;
-    let record = Subject::Record(place.count);
-    match records::unpack_record(state, stated, got, store, out) {
-        RecordStep::End => close(place, line),
-        RecordStep::Broken(refusal) => {
-            let word = Word::Refused(base::number(refusal));
-            say(place, Wait::Close, record, word, line)
-        }
-        RecordStep::PassedOver(refusal) => {
-            let word = Word::Refused(base::number(refusal));
-            Turn {
-                place: following(place, state, losses::with_passed(before)),
-                order: turns::say(record, word, place.width, line),
-            }
-        }
+    match records::unpack_record(state, fields, got, store, out) {
+        RecordStep::Broken(refusal) => stop_at(place, refusal, line),
+        RecordStep::PassedOver(refusal) => passing::pass_over(place, refusal, line),
         RecordStep::Taken(taken) => {
             let after = taken.state;
-            let lost = losses::with_taken(before, taken.fragment_lost, taken.element_lost);
+            let lost = losses::with_taken(place.losses, taken.fragment_lost, taken.element_lost);
             Turn {
                 place: following(place, after, lost),
-                order: turns::ask(taken.bytes, place.width),
+                order: turns::ask(taken.bytes, place.width + train::NUMBER_WIDTH),
             }
         }
     }
@@ -237,14 +239,15 @@ fn read_subject(wait: Wait, k: u64) -> Subject
 {
     match wait {
         Wait::Version => Subject::Train,
-        Wait::Length => Subject::Record(k),
-        Wait::Body(_) => Subject::Record(k),
+        Wait::Fields => Subject::Record(k),
+        Wait::Payload(_) => Subject::Record(k),
+        Wait::Away(_) => Subject::Record(k),
         Wait::Close => Subject::Record(k),
         Wait::Nothing => Subject::Record(k),
     }
 }
 
-// Whose bytes were written before the length of record k is read, for the line of a failed write.
+// Whose bytes were written before what stands before the payload of record k is read, for the line of a failed write.
 fn written_subject(k: u64) -> Subject
     ensures { λ r. ⌜ r ≡ writtenOf k ⌝ }
 {
@@ -256,8 +259,8 @@ fn written_subject(k: u64) -> Subject
 }
 
 // The next turn, by what came of the one before: all that `unpack` decides.
-// Helper: every store must have exactly its length (L14, L15), no more bytes may have come than the input holds, and where a record is
-// waited for, the width must be that of its train, and the record must state 3 or more.
+// Helper: every store must have exactly its length (L14, L15), no more bytes may have come than the input holds, and the width must be
+// one that a train has.
 pub fn step(
     place: Place,
     came: Came,
@@ -283,8 +286,9 @@ pub fn step(
         }
         Came::Read(n) => match wait {
             Wait::Version => version_step(place, &input[..n], line),
-            Wait::Length => length_step(place, &input[..n], line),
-            Wait::Body(stated) => body_step(place, stated, &input[..n], store, out, line),
+            Wait::Fields => fields_step(place, &input[..n], line),
+            Wait::Payload(fields) => { payload_step(place, fields, &input[..n], store, out, line) }
+            Wait::Away(left) => passing::away_step(place, left, &input[..n], line),
             Wait::Close => close(place, line),
             Wait::Nothing => Turn {
                 place: place,

@@ -88,7 +88,7 @@ impl Dice {
 
     pub fn mtu(&mut self) -> usize {
         match self.below(10) {
-            0 => self.pick(&[0, 1, 2, 3, 4, 1200, 9000, 16_390, 65_533]),
+            0 => self.pick(&[0, 1, 2, 3, 4, 1200, 9000, 16_390, 65_533, 65_534, 1_048_576]),
             1..=4 => 3 + self.below(10),
             _ => 3 + self.below(200),
         }

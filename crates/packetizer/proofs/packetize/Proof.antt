@@ -126,7 +126,7 @@ place-obu-requires c κs =
     let l = inside (turn c) in
     let s = start p .pre in
     rw (size (c .before)) (
-      omega (arith, current-held _ _ _ _ (v .inv .current), s .some (v .i) l, total-each (of (start p)) (v .i) l, s .total, s .most, least p),
+      omega (arith, current-held _ _ _ _ (v .inv .current), s .some (v .i) l, total-each (of (start p)) (v .i), s .total, s .most, least p),
       placing-asks (v .inv) l (few p) (near p) (room p),
     )
 

@@ -1,13 +1,15 @@
-use mathlib.Core.Path.{refl, sym, ap, _∙_}
+use mathlib.Core.Path.{_≡_, refl, sym, ap, _∙_}
 use native.Mathlib.Omega.{arith}
 use mathlib.Core.List.{[], _∷_}
 use Rattle.base.specs.Lists.{front}
-use Rattle.train.specs.Train.{trainHead}
+use Rattle.train.specs.Train.{headFor}
+use Rattle.train.specs.declared.TrainHead.{TrainHead}
 use Rattle.turns.specs.Orders.{Told}
 use Rattle.turns.proofs.Turning.{asked}
 use Rattle.packing.specs.declared.Wait.the-variants as wait
 use Rattle.packing.specs.declared.Place.{Place}
-use Rattle.packing.specs.Pack.{unitWidth}
+use Rattle.packing.specs.declared.input.PackHeadRead.{PackHeadRead}
+use Rattle.packing.specs.Pack.{unitWidth, headAfter}
 use Rattle.packing.specs.Paper.{paperHead}
 use Rattle.packing.specs.Steps.{headTold}
 use Rattle.packing.proofs.Turning.{gives, gives-as, first-stored}
@@ -15,12 +17,21 @@ use borrow.Author.Needs.{needs}
 use Rattle.packing.proofs.head_step.Statement.{statement}
 use Rattle.packing.proofs.head_step.Tie as tie
 
--- from one place of the code back to another
-abbrev start-of-read-pack-head : tie.After-read-pack-head → tie.Start
-start-of-read-pack-head c = c .before .before .before .before
+-- ---- the places: the head is read; it is there
 
-read-pack-head-requires : tie.Need-read-pack-head-requires
-read-pack-head-requires c κs = search needs
+abbrev start : tie.After-read-head → tie.Start
+start c = c .before .before .before .before
+
+abbrev reading : tie.After-head → tie.After-read-head
+reading c = c .before .before
+
+-- what is told, by what was read
+told-by : (c : tie.After-read-head) (x : PackHeadRead) → c .read-head .result ≡ x → let a = start c .args in
+    headTold (a .place) (headAfter (a .version) (a .got .now)) ≡ headTold (a .place) (paperHead x)
+told-by c x e = ap (headTold (start c .args .place)) (sym (c .read-head .ensures) ∙ ap paperHead e)
+
+read-head-requires : tie.Need-read-head-requires
+read-head-requires c κs = search needs
 
 enum-told : tie.Need-enum-told
 enum-told c = search needs
@@ -30,6 +41,9 @@ say-requires c κs = search needs
 
 enum-known-head : tie.Need-enum-known-head
 enum-known-head c = search needs
+
+head-for-requires : tie.Need-head-for-requires
+head-for-requires c κs = search needs
 
 slice-write-written : tie.Need-slice-write-written
 slice-write-written c = search needs
@@ -42,32 +56,37 @@ same-length c = search needs
 
 returns : tie.Need-returns
 returns c =
-    let at-enum-told = c .before .before .before .before in
-    let at-read-pack-head = at-enum-told .before .before in
-    let at-start = start-of-read-pack-head at-read-pack-head in
-    let e = ap (headTold (at-start .args .place)) (sym (at-read-pack-head .read-pack-head .ensures) ∙ ap paperHead (at-enum-told .enum-told .given .1)) in
-    (gives-as e (c .before .before .say .ensures), ap (λ (t : Told Place). front (t .written) (at-start .args .written .now)) (sym e))
+    let t = c .before .before .before .before in
+    let q = t .before .before in
+    let told = told-by q _ (t .enum-told .given .1) in
+    (gives-as told (c .before .before .say .ensures), ap (λ (t : Told Place). front (t .written) (start q .args .written .now)) (sym told))
 
 same-length-2 : tie.Need-same-length-2
 same-length-2 c = search needs
 
 returns-2 : tie.Need-returns-2
 returns-2 c =
-    let at-read-pack-head = c .before .before .before .before in
-    let at-start = start-of-read-pack-head at-read-pack-head in
-    let e = ap (headTold (at-start .args .place)) (sym (at-read-pack-head .read-pack-head .ensures) ∙ ap paperHead (c .before .before .head .given .1)) in
-    let h = c .before .before .head .given .0 .0 in
-    let p : Place = record { wait = wait.Length; count = at-start .args .place .count; mtu = h .mtu; number = h .first } in
-    (gives p refl tt (asked p (trainHead .version ∷ []) 1 unitWidth e refl (c .ask .ensures) refl (omega arith) (omega arith)), first-stored (at-start .args .written .now) (omega (arith, at-start .pre .0)) ∙ ap (λ (t : Told Place). front (t .written) (at-start .args .written .now)) (sym e))
+    let f = c .before in
+    let n = f .before .before in
+    let a = start (reading n) .args in
+    let h = n .head .given .0 .0 in
+    let told = told-by (reading n) _ (n .head .given .1) in
+    let p : Place = record { wait = wait.Length; count = a .place .count; mtu = h .mtu; number = h .first } in (
+      gives p refl tt (asked p (headFor (h .mtu) .version ∷ []) 1 unitWidth told refl (c .ask .ensures) refl (omega arith) (omega arith)),
+      first-stored (a .written .now) (omega (arith, start (reading n) .pre .0))
+          ∙ ap (λ (t : TrainHead). front (t .version ∷ []) (a .written .now)) (f .head-for .ensures)
+          ∙ ap (λ (t : Told Place). front (t .written) (a .written .now)) (sym told),
+    )
 
 pub head-step-spec : {M : Type 1} → statement M
 head-step-spec =
     tie.close
     (tie.spec
-    read-pack-head-requires
+    read-head-requires
     enum-told
     say-requires
     enum-known-head
+    head-for-requires
     slice-write-written
     ask-requires
     same-length

@@ -37,7 +37,7 @@ returns-2 c =
     let s = start (c .before .before) in
     let a = s .args in
     let p = next (a .place) in
-    let told = ap (leftTold (a .place) (a .progress)) (left-none (a .place .mtu) (a .unit .now) (a .progress .packet) (omega (arith, c .before .before .if1 .left, s .pre .0 .packets-is))) in (
+    let told = ap (leftTold (a .place) (a .progress)) (left-none (a .place .mtu) (a .unit .now) (a .progress .packet) (omega (arith, c .before .before .if1 .left, s .pre .ready .packets-is))) in (
       λ line. gives p (c .before .following .ensures) tt (asked p [] 0 unitWidth told (c .before .following .ensures) (c .ask .ensures) refl (omega arith) (omega arith)),
       ap (λ (t : Told Place). front (t .written) (a .written .now)) (sym told),
       ready-as _ _ _ (c .before .following .ensures) tt,

@@ -1,12 +1,12 @@
 use mathlib.Core.Path.{_≡_, sym, ap, ap₂, _∙_}
-use Prim.Native.Nat.{ℕ, _+_, _-_, _≤_, _<_}
+use Prim.Native.Nat.{ℕ, _+_, _-_, _<_}
 use native.Mathlib.Omega.{arith}
 use borrow.Author.Needs.{needs}
 use mathlib.Core.List.{List}
-use lib.ListN.{length, getD, take, drop}
+use lib.ListN.{length, take, drop}
 use Rattle.packetizer.specs.Plan.{startAfter}
 use Rattle.packetizer.specs.Laws.{plannedBytes}
-use Rattle.packetizer.specs.Records.{packetsIn, noPacket}
+use Rattle.packetizer.specs.Records.{packetsIn}
 use Rattle.packetizer.specs.declared.PacketMetadata.{PacketMetadata}
 use Rattle.packetizer.proofs.Records.{packets-count}
 use Rattle.payloader.proofs.Runs.{run-ends, no-bytes}

@@ -3,23 +3,21 @@ use Prim.Native.Nat.{ℕ, _+_, _≤_}
 use native.Mathlib.Omega.{arith}
 use mathlib.Core.List.{List}
 use lib.ListN.{length, drop}
-use Rattle.train.specs.Train.{countedWidth, leastStated, Front, bodyOf, frontBy, frontOf}
-use Rattle.train.specs.Paper.{paperLength, paperRecord}
-use Rattle.train.proofs.Reading.{body-holds, shifted, at-end, at-within, at-length, at-body}
+use Rattle.train.specs.Train.{countedWidth, numberWidth, Front, holds, frontBy, frontOf}
+use Rattle.train.specs.Paper.{paperFields}
+use Rattle.train.specs.declared.RecordFields.{RecordFields}
+use Rattle.train.proofs.Reading.{headAt, at-end, at-fields, at-stated, at-cut, at-whole}
 use borrow.Author.Needs.{needs}
 use Rattle.train.proofs.read_record.Statement.{statement}
 use Rattle.train.proofs.read_record.Tie as tie
 
--- ---- places: where the body was read, where the width was counted, where the length was read, and the start
+-- ---- places: where the fields were read, where the width was counted then, and the start
 
-abbrev counted : tie.After-read-body → tie.After-counted-width
-counted c = c .before .before
-
-abbrev lengthRead : tie.After-counted-width → tie.After-read-length
-lengthRead c = c .before .before .before .before
-
-abbrev start : tie.After-read-length → tie.Start
+abbrev start : tie.After-read-fields → tie.Start
 start c = c .before .before .before .before
+
+abbrev fieldsRead : tie.After-counted-width → tie.After-read-fields
+fieldsRead c = c .before .before .before .before
 
 -- ---- the bytes from the record on, the width of its length field, and the record
 
@@ -32,52 +30,43 @@ widthAt c = countedWidth (c .args .width)
 abbrev frontAt : tie.Start → Front
 frontAt c = frontOf (widthAt c) (c .args .at) (restAt c)
 
--- by the length that was read
-front : (c : tie.After-read-length) →
-    frontBy (widthAt (start c)) (start c .args .at) (restAt (start c)) (paperLength (c .read-length .result)) ≡ frontAt (start c)
+-- by what was read before its payload
+front : (c : tie.After-read-fields) →
+    frontBy (widthAt (start c)) (start c .args .at) (restAt (start c)) (paperFields (c .read-fields .result)) ≡ frontAt (start c)
 front c =
     let s = start c in
-    at-length (widthAt s) (s .args .bytes .now) (s .args .at) _ (omega arith) (c .read-length .ensures)
+    at-fields (widthAt s) (s .args .bytes .now) (s .args .at) (omega arith) (c .read-fields .ensures)
 
--- a length that was stated
-within : (c : tie.After-counted-width) →
-    (start (lengthRead c) .args .at + c .counted-width .result ≤ length (start (lengthRead c) .args .bytes .now))
-    × (leastStated ≤ c .before .before .stated .given .0 .0 .bytes)
-within c =
-    let r = lengthRead c in
-    let s = start r in
-    let k = at-within (widthAt s) (s .args .bytes .now) (s .args .at) _ (omega arith) (sym (ap paperLength (c .before .before .stated .given .1)) ∙ r .read-length .ensures) in
-    (omega (arith, k .0, c .counted-width .ensures), k .1)
+-- the fields that were read, and that they lie in the bytes
+abbrev fields : tie.After-counted-width → RecordFields
+fields c = c .before .before .fields .given .0 .0
 
--- by what was read after its length
-body : (c : tie.After-read-body) →
-    shifted (start (lengthRead (counted c)) .args .at + counted c .counted-width .result) (paperRecord (c .read-body .result))
-    ≡ frontAt (start (lengthRead (counted c)))
-body c =
-    let k = counted c in
-    let r = lengthRead k in
+there : (c : tie.After-counted-width) → start (fieldsRead c) .args .at + c .counted-width .result + numberWidth ≤ length (start (fieldsRead c) .args .bytes .now)
+there c =
+    let r = fieldsRead c in
     let s = start r in
-    at-body (k .counted-width .result) (s .args .bytes .now) (s .args .at) _ _ (within k .0) (c .read-body .ensures)
-    ∙ ap (λ (w : ℕ). bodyOf (k .before .before .stated .given .0 .0 .bytes) (s .args .at + w) (drop w (restAt s))) (k .counted-width .ensures)
-    ∙ ap (frontBy (widthAt s) (s .args .at) (restAt s)) (sym (ap paperLength (k .before .before .stated .given .1)))
-    ∙ front r
+    omega (
+      arith,
+      c .counted-width .ensures,
+      at-stated (widthAt s) (s .args .bytes .now) (s .args .at) (omega arith) (sym (ap paperFields (c .before .before .fields .given .1)) ∙ r .read-fields .ensures),
+    )
 
 -- ---- what is left
 
 returns : tie.Need-returns
 returns c = let a = c .before .before .args in at-end (countedWidth (a .width)) (a .bytes .now) (a .at) (c .if1 .taken)
 
-sub-read-length : tie.Need-sub-read-length
-sub-read-length c = search needs
+sub-read-fields : tie.Need-sub-read-fields
+sub-read-fields c = search needs
 
-part-read-length-start : tie.Need-part-read-length-start
-part-read-length-start c = search needs
+part-read-fields-start : tie.Need-part-read-fields-start
+part-read-fields-start c = search needs
 
-part-read-length-end : tie.Need-part-read-length-end
-part-read-length-end c = search needs
+part-read-fields-end : tie.Need-part-read-fields-end
+part-read-fields-end c = search needs
 
-read-length-requires : tie.Need-read-length-requires
-read-length-requires c κs = search needs
+read-fields-requires : tie.Need-read-fields-requires
+read-fields-requires c κs = search needs
 
 enum-told : tie.Need-enum-told
 enum-told c = search needs
@@ -85,82 +74,61 @@ enum-told c = search needs
 enum-known-refusal : tie.Need-enum-known-refusal
 enum-known-refusal c = search needs
 
-enum-known-stated : tie.Need-enum-known-stated
-enum-known-stated c = search needs
+enum-known-fields : tie.Need-enum-known-fields
+enum-known-fields c = search needs
 
 counted-width-requires : tie.Need-counted-width-requires
 counted-width-requires c κs = search needs
 
-add-body : tie.Need-add-body
-add-body c = let h = within c in omega arith
+add-start : tie.Need-add-start
+add-start c = omega (arith, there c)
 
-sub-read-body : tie.Need-sub-read-body
-sub-read-body c = let h = within c in omega arith
+add-start-2 : tie.Need-add-start-2
+add-start-2 c = omega (arith, there c)
 
-part-read-body-start : tie.Need-part-read-body-start
-part-read-body-start c = let h = within c in omega arith
-
-part-read-body-end : tie.Need-part-read-body-end
-part-read-body-end c = search needs
-
-read-body-requires : tie.Need-read-body-requires
-read-body-requires c κs = within (c .before) .1
-
-enum-told-2 : tie.Need-enum-told-2
-enum-told-2 c = search needs
-
-enum-known-refusal-2 : tie.Need-enum-known-refusal-2
-enum-known-refusal-2 c = search needs
-
-enum-known-head : tie.Need-enum-known-head
-enum-known-head c = search needs
-
-add-t22 : tie.Need-add-t22
-add-t22 c =
-    let at = c .before .before .before .before in
-    let h = within (counted at) in
-    let k = body-holds _ _ _ (c .before .before .head .given .0 .0) (sym (ap paperRecord (c .before .before .head .given .1)) ∙ at .read-body .ensures) in
-    omega arith
+sub-if2 : tie.Need-sub-if2
+sub-if2 c = omega (arith, there c)
 
 returns-2 : tie.Need-returns-2
-returns-2 c = ap (frontBy _ _ _) (sym (ap paperLength (c .enum-told .given .1))) ∙ front (c .before .before)
+returns-2 c = ap (frontBy _ _ _) (sym (ap paperFields (c .enum-told .given .1))) ∙ front (c .before .before)
 
 returns-3 : tie.Need-returns-3
-returns-3 c = ap (frontBy _ _ _) (sym (ap paperLength (c .before .refusal .given .1))) ∙ front (c .before .before .before)
+returns-3 c = ap (frontBy _ _ _) (sym (ap paperFields (c .before .refusal .given .1))) ∙ front (c .before .before .before)
 
 returns-4 : tie.Need-returns-4
-returns-4 c = ap (shifted _) (sym (ap paperRecord (c .enum-told2 .given .1))) ∙ body (c .before .before)
+returns-4 c =
+    let w = c .before .before in
+    let s = start (fieldsRead w) in
+    at-cut (widthAt s) (s .args .bytes .now) (s .args .at) (omega arith) (fields w) (omega (arith, there w, w .counted-width .ensures)) (omega (arith, c .if2 .taken, w .counted-width .ensures))
+    ∙ ap (frontBy _ _ _) (sym (ap paperFields (w .before .before .fields .given .1)))
+    ∙ front (fieldsRead w)
 
 returns-5 : tie.Need-returns-5
-returns-5 c = ap (shifted _) (sym (ap paperRecord (c .before .refusal2 .given .1))) ∙ body (c .before .before .before)
-
-returns-6 : tie.Need-returns-6
-returns-6 c = ap (shifted _) (sym (ap paperRecord (c .before .before .head .given .1))) ∙ body (c .before .before .before .before)
+returns-5 c =
+    let w = c .before .before in
+    let s = start (fieldsRead w) in
+    ap (λ (n : ℕ). holds (headAt n (s .args .at) (fields w))) (w .counted-width .ensures)
+    ∙ at-whole (widthAt s) (s .args .bytes .now) (s .args .at) (omega arith) (fields w) (omega (arith, there w, w .counted-width .ensures)) (omega (arith, c .if2 .left, w .counted-width .ensures))
+    ∙ ap (frontBy _ _ _) (sym (ap paperFields (w .before .before .fields .given .1)))
+    ∙ front (fieldsRead w)
 
 pub read-record-spec : {M : Type 1} → statement M
 read-record-spec =
     tie.close
     (tie.spec
     returns
-    sub-read-length
-    part-read-length-start
-    part-read-length-end
-    read-length-requires
+    sub-read-fields
+    part-read-fields-start
+    part-read-fields-end
+    read-fields-requires
     enum-told
     enum-known-refusal
-    enum-known-stated
+    enum-known-fields
     counted-width-requires
-    add-body
-    sub-read-body
-    part-read-body-start
-    part-read-body-end
-    read-body-requires
-    enum-told-2
-    enum-known-refusal-2
-    enum-known-head
-    add-t22
+    add-start
+    add-start-2
+    sub-if2
     returns-2
     returns-3
     returns-4
-    returns-5
-    returns-6)
+    returns-5)

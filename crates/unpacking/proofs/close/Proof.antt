@@ -39,7 +39,7 @@ returns c =
     let at-start = start-of-with-open at-with-open in
     let p = awaits (at-start .args .place) wait.Nothing in
     let none = sym (c .before .before .is-none .ensures ∙ ap isNone (at-with-open .with-open .ensures)) ∙ c .before .if1 .taken in
-    gives p (at-awaiting .awaiting .ensures) tt (ended p (rw none refl) (at-awaiting .awaiting .ensures) (c .over .ensures))
+    gives p (at-awaiting .awaiting .ensures) (at-start .pre .1) (ended p (rw none refl) (at-awaiting .awaiting .ensures) (c .over .ensures))
 
 put-losses-requires : tie.Need-put-losses-requires
 put-losses-requires c κs = search needs
@@ -61,7 +61,7 @@ returns-2 c =
     let p = awaits (at-start .args .place) wait.Nothing in
     let lost = withOpen (at-start .args .place .losses) (at-start .args .place .state .«open») in
     let some = sym (at-is-none .is-none .ensures ∙ ap isNone (at-with-open .with-open .ensures)) ∙ at-else1 .if1 .left in
-    gives p (at-awaiting .awaiting .ensures) tt
+    gives p (at-awaiting .awaiting .ensures) (at-start .pre .1)
     (turned (tells p (lossesLine lost) 0) (rw some refl) (at-awaiting .awaiting .ensures)
     (c .tell .ensures ∙ ap (λ (n : ℕ). record { more = true; write = 0; say = n; read = 0 }) (at-put-losses .put-losses .ensures .0 ∙ ap (λ (l : Losses). length (lossesLine l)) (at-with-open .with-open .ensures)))
     (at-put-losses .put-losses .ensures .1 ∙ ap (λ (l : Losses). front (lossesLine l) (at-start .args .line .now)) (at-with-open .with-open .ensures))

@@ -9,7 +9,7 @@ next-count-requires : tie.Need-next-count-requires
 next-count-requires c κs = search needs
 
 returns : tie.Need-returns
-returns c = ap (λ (k : ℕ). record { wait = wait.Length; count = k; width = c .before .args .place .width; state = c .before .args .state; losses = c .before .args .losses }) (c .next-count .ensures)
+returns c = ap (λ (k : ℕ). record { wait = wait.Fields; count = k; width = c .before .args .place .width; state = c .before .args .state; losses = c .before .args .losses }) (c .next-count .ensures)
 
 pub following-spec : {M : Type 1} → statement M
 following-spec = tie.close (tie.spec next-count-requires returns)

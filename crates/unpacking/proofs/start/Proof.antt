@@ -21,7 +21,7 @@ ask-requires c κs = search needs
 returns : tie.Need-returns
 returns c =
     let p = startsWith .place in
-    gives p (ap (λ (l : Losses). record { wait = wait.Version; count = 0; width = 0; state = stateOf fresh; losses = l }) (c .before .none .ensures)) tt
+    gives p (ap (λ (l : Losses). record { wait = wait.Version; count = 0; width = 0; state = stateOf fresh; losses = l }) (c .before .none .ensures)) (omega arith)
     (asked p [] 0 versionBytes refl (ap (λ (l : Losses). record { wait = wait.Version; count = 0; width = 0; state = stateOf fresh; losses = l }) (c .before .none .ensures)) (c .ask .ensures) refl (omega arith) (omega arith))
 
 pub start-spec : {M : Type 1} → statement M

@@ -1,4 +1,5 @@
-use mathlib.Core.Path.{refl, sym, ap}
+use mathlib.Core.Path.{_≡_, refl, sym, ap}
+use lib.ListN.{length, take}
 use Rattle.turns.specs.Orders.{says}
 use Rattle.turns.specs.declared.Subject.{Subject}
 use Rattle.turns.specs.declared.Word.the-variants as word
@@ -6,31 +7,22 @@ use Rattle.turns.proofs.Orders.{came-part}
 use Rattle.turns.proofs.Turning.{ended}
 use Rattle.unpacking.specs.Steps.{awaits}
 use Rattle.unpacking.specs.declared.Wait.the-variants as wait
-use Rattle.unpacking.proofs.Turning.{possible-by, gives, stays, by-wait}
+use Rattle.unpacking.proofs.Turning.{gives, stays, by-wait}
 use borrow.Author.Needs.{needs}
 use Rattle.unpacking.proofs.step.Statement.{statement}
 use Rattle.unpacking.proofs.step.Tie as tie
 
--- ---- places, each by the one that follows it
+-- ---- places: where bytes were read, and the start
 
 abbrev at-start : tie.After-slice-known3 → tie.Start
 at-start c = c .before .before .before .before
 
--- bytes were read
-abbrev at-read : tie.After-known-told → tie.After-came
-at-read c = c .before
-
 abbrev start : tie.After-known-told → tie.Start
-start c = at-start (at-read c .before .before)
+start c = at-start (c .before .before .before)
 
-abbrev at-version : tie.After-version-step → tie.After-enum-told3
-at-version c = c .before .before .before
-
-abbrev at-length : tie.After-length-step → tie.After-enum-told4
-at-length c = c .before .before .before
-
-abbrev at-body : tie.After-body-step → tie.After-wait
-at-body c = c .before .before .before .before .before .before
+-- the bytes that came are so many
+read : (c : tie.After-known-told) → c .before .came .given .0 .0 ≡ length (take (c .before .came .given .0 .0) (start c .args .input .now))
+read c = came-part (start c .args .input .now) (c .before .came .given .1) (start c .pre .came-within) (start c .pre .input-is)
 
 -- ---- the needs
 
@@ -59,9 +51,7 @@ enum-told-3 : tie.Need-enum-told-3
 enum-told-3 c = search needs
 
 slice-aggregate-version-step : tie.Need-slice-aggregate-version-step
-slice-aggregate-version-step c =
-    let k = c .before .before .before in
-    came-part (start k .args .input .now) (at-read k .came .given .1) (start k .pre .came-within) (start k .pre .input-is)
+slice-aggregate-version-step c = read (c .before .before .before)
 
 version-step-requires : tie.Need-version-step-requires
 version-step-requires c κs = search needs
@@ -69,31 +59,29 @@ version-step-requires c κs = search needs
 enum-told-4 : tie.Need-enum-told-4
 enum-told-4 c = search needs
 
-slice-aggregate-length-step : tie.Need-slice-aggregate-length-step
-slice-aggregate-length-step c =
-    let k = c .before .before .before in
-    came-part (start k .args .input .now) (at-read k .came .given .1) (start k .pre .came-within) (start k .pre .input-is)
+slice-aggregate-fields-step : tie.Need-slice-aggregate-fields-step
+slice-aggregate-fields-step c = read (c .before .before .before)
 
-length-step-requires : tie.Need-length-step-requires
-length-step-requires c κs =
-    let e = c .before .before in
-    let s = start (e .before .before) in
-    (s .pre .line-is, possible-by (s .args .place) (e .enum-told4 .given .1) (s .pre .possible))
+fields-step-requires : tie.Need-fields-step-requires
+fields-step-requires c κs = search needs
 
 enum-known-wait : tie.Need-enum-known-wait
 enum-known-wait c = search needs
 
-slice-aggregate-body-step : tie.Need-slice-aggregate-body-step
-slice-aggregate-body-step c =
-    let k = c .before .before .before .before in
-    came-part (start k .args .input .now) (at-read k .came .given .1) (start k .pre .came-within) (start k .pre .input-is)
+slice-aggregate-payload-step : tie.Need-slice-aggregate-payload-step
+slice-aggregate-payload-step c = read (c .before .before .before .before)
 
-body-step-requires : tie.Need-body-step-requires
-body-step-requires c κs =
-    let w = c .before .before .before .before .before in
-    let s = start (w .before .before) in
-    let possible = possible-by (s .args .place) (w .wait .given .1) (s .pre .possible) in
-    (possible .0, s .pre .out-is, s .pre .line-is, possible .1)
+payload-step-requires : tie.Need-payload-step-requires
+payload-step-requires c κs = search needs
+
+enum-known-wait-2 : tie.Need-enum-known-wait-2
+enum-known-wait-2 c = search needs
+
+slice-aggregate-away-step : tie.Need-slice-aggregate-away-step
+slice-aggregate-away-step c = read (c .before .before .before .before)
+
+away-step-requires : tie.Need-away-step-requires
+away-step-requires c κs = search needs
 
 enum-told-5 : tie.Need-enum-told-5
 enum-told-5 c = search needs
@@ -114,7 +102,8 @@ returns : tie.Need-returns
 returns c =
     let k = c .before .before in
     let about = k .before .before in
-    let p = at-start (about .before .before .before) .args .place in
+    let s = at-start (about .before .before .before) in
+    let p = s .args .place in
     rw (about .before .enum-told .given .1)
     (stays (ap (λ (s : Subject). says (awaits p wait.Nothing) s word.ReadFailed 0) (sym (about .read-subject .ensures))) (k .say .ensures))
 
@@ -125,7 +114,8 @@ returns-2 : tie.Need-returns-2
 returns-2 c =
     let k = c .before .before in
     let about = k .before .before in
-    let p = at-start (about .before .before .before) .args .place in
+    let s = at-start (about .before .before .before) in
+    let p = s .args .place in
     rw (about .before .enum-told2 .given .1)
     (stays (ap (λ (s : Subject). says (awaits p wait.Nothing) s word.WriteFailed 0) (sym (about .written-subject .ensures))) (k .say2 .ensures))
 
@@ -134,24 +124,20 @@ same-length-3 c = search needs
 
 returns-3 : tie.Need-returns-3
 returns-3 c =
-    let v = c .before .before in
-    let e = at-version v in
-    let k = e .before .before in
+    let k = (c .before .before .before .before .before .before .before) in
     let a = start k .args in
-    by-wait (a .place) (a .input .now) (a .store .now) (a .out .now) (at-read k .came .given .1) (e .enum-told3 .given .1)
-    (stays refl (v .version-step .ensures))
+    by-wait (a .place) (a .input .now) (a .store .now) (a .out .now) (k .before .came .given .1) (c .before .before .before .before .before .enum-told3 .given .1)
+    (stays refl (c .before .before .version-step .ensures))
 
 same-length-4 : tie.Need-same-length-4
 same-length-4 c = search needs
 
 returns-4 : tie.Need-returns-4
 returns-4 c =
-    let l = c .before .before in
-    let e = at-length l in
-    let k = e .before .before in
+    let k = (c .before .before .before .before .before .before .before) in
     let a = start k .args in
-    by-wait (a .place) (a .input .now) (a .store .now) (a .out .now) (at-read k .came .given .1) (e .enum-told4 .given .1)
-    (stays refl (l .length-step .ensures))
+    by-wait (a .place) (a .input .now) (a .store .now) (a .out .now) (k .before .came .given .1) (c .before .before .before .before .before .enum-told4 .given .1)
+    (stays refl (c .before .before .fields-step .ensures))
 
 same-length-5 : tie.Need-same-length-5
 same-length-5 c = search needs
@@ -164,32 +150,37 @@ same-length-7 c = search needs
 
 returns-5 : tie.Need-returns-5
 returns-5 c =
-    let b = c .before .before .before .before .before .before in
-    let w = at-body b in
-    let k = w .before .before in
+    let k = (c .before .before .before .before .before .before .before .before .before .before .before .before .before .before) in
     let a = start k .args in
-    by-wait (a .place) (a .input .now) (a .store .now) (a .out .now) (at-read k .came .given .1) (w .wait .given .1)
-    (b .body-step .ensures)
+    by-wait (a .place) (a .input .now) (a .store .now) (a .out .now) (k .before .came .given .1) (c .before .before .before .before .before .before .before .before .before .before .before .before .wait .given .1)
+    (c .before .before .before .before .before .before .payload-step .ensures)
 
 same-length-8 : tie.Need-same-length-8
 same-length-8 c = search needs
 
 returns-6 : tie.Need-returns-6
 returns-6 c =
-    let l = c .before .before in
-    let e = l .before .before in
-    let k = e .before .before in
+    let k = (c .before .before .before .before .before .before .before .before) in
     let a = start k .args in
-    by-wait (a .place) (a .input .now) (a .store .now) (a .out .now) (at-read k .came .given .1) (e .enum-told5 .given .1)
-    (stays refl (l .close .ensures))
+    by-wait (a .place) (a .input .now) (a .store .now) (a .out .now) (k .before .came .given .1) (c .before .before .before .before .before .before .wait2 .given .1)
+    (stays refl (c .before .before .away-step .ensures))
+
+same-length-9 : tie.Need-same-length-9
+same-length-9 c = search needs
 
 returns-7 : tie.Need-returns-7
 returns-7 c =
-    let e = c .before in
-    let k = e .before .before in
+    let k = (c .before .before .before .before .before .before) in
     let a = start k .args in
-    by-wait (a .place) (a .input .now) (a .store .now) (a .out .now) (at-read k .came .given .1) (e .enum-told6 .given .1)
-    (stays refl (gives (a .place) refl (possible-by (a .place) (sym (e .enum-told6 .given .1)) tt) (ended (a .place) refl refl (c .over .ensures))))
+    by-wait (a .place) (a .input .now) (a .store .now) (a .out .now) (k .before .came .given .1) (c .before .before .before .before .enum-told5 .given .1)
+    (stays refl (c .before .before .close .ensures))
+
+returns-8 : tie.Need-returns-8
+returns-8 c =
+    let k = (c .before .before .before) in
+    let a = start k .args in
+    by-wait (a .place) (a .input .now) (a .store .now) (a .out .now) (k .before .came .given .1) (c .before .enum-told6 .given .1)
+    (stays refl (gives (a .place) refl (start k .pre .possible) (ended (a .place) refl refl (c .over .ensures))))
 
 pub step-spec : {M : Type 1} → statement M
 step-spec =
@@ -206,11 +197,14 @@ step-spec =
     slice-aggregate-version-step
     version-step-requires
     enum-told-4
-    slice-aggregate-length-step
-    length-step-requires
+    slice-aggregate-fields-step
+    fields-step-requires
     enum-known-wait
-    slice-aggregate-body-step
-    body-step-requires
+    slice-aggregate-payload-step
+    payload-step-requires
+    enum-known-wait-2
+    slice-aggregate-away-step
+    away-step-requires
     enum-told-5
     close-requires
     enum-told-6
@@ -229,4 +223,6 @@ step-spec =
     returns-5
     same-length-8
     returns-6
-    returns-7)
+    same-length-9
+    returns-7
+    returns-8)

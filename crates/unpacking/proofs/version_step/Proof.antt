@@ -1,25 +1,42 @@
 use mathlib.Core.Path.{_≡_, refl, sym, ap, _∙_}
-use Prim.Native.Nat.{ℕ}
+use Prim.Native.Nat.{ℕ, _≤_}
 use native.Mathlib.Omega.{arith}
 use mathlib.Core.List.{[]}
-use Rattle.train.specs.Train.{lengthWidth}
+use Rattle.train.specs.Train.{longHead, headOf}
 use Rattle.train.specs.Paper.{paperHead}
 use Rattle.train.specs.declared.TrainHead.{TrainHead}
-use Rattle.train.proofs.Reading.{head-known}
+use Rattle.train.proofs.Reading.{head-width, counted-within}
+use Rattle.base.specs.Answers.{given}
 use Rattle.turns.specs.Orders.{says}
 use Rattle.turns.specs.declared.Subject.the-variants as subject
 use Rattle.turns.specs.declared.Word.the-variants as word
 use Rattle.turns.proofs.Turning.{asked}
 use Rattle.unpacking.specs.declared.Wait.the-variants as wait
-use Rattle.unpacking.specs.Steps.{awaits, first, versionTold}
+use Rattle.unpacking.specs.Steps.{fieldsWidth, awaits, first, versionTold}
 use Rattle.unpacking.proofs.Turning.{gives, gives-as}
 use borrow.Author.Needs.{needs}
 use Rattle.unpacking.proofs.version_step.Statement.{statement}
 use Rattle.unpacking.proofs.version_step.Tie as tie
 
--- where the head was read, and the start
+-- ---- places: a head is known, it was read, and the start
+
 abbrev start : tie.After-read-head → tie.Start
 start c = c .before .before .before
+
+abbrev at-read : tie.After-known-told → tie.After-read-head
+at-read c = c .before .before .before
+
+abbrev headAt : tie.After-known-told → TrainHead
+headAt c = c .before .head .given .0 .0
+
+known : (c : tie.After-known-told) → given (headAt c) ≡ headOf (start (at-read c) .args .got .now)
+known c = sym (ap paperHead (c .before .head .given .1)) ∙ at-read c .read-head .ensures
+
+-- its width is no wider than that of version 2
+narrow : (c : tie.After-known-told) → headAt c .width ≤ longHead .width
+narrow c = omega (arith, head-width (start (at-read c) .args .got .now) (known c), counted-within (headAt c .width))
+
+-- ---- the needs
 
 read-head-requires : tie.Need-read-head-requires
 read-head-requires c κs = search needs
@@ -29,6 +46,9 @@ enum-known-head c = search needs
 
 beginning-requires : tie.Need-beginning-requires
 beginning-requires c κs = search needs
+
+add-ask : tie.Need-add-ask
+add-ask c = omega (arith, narrow (c .before))
 
 ask-requires : tie.Need-ask-requires
 ask-requires c κs = search needs
@@ -44,28 +64,27 @@ say-requires c κs = search needs
 
 returns : tie.Need-returns
 returns c =
-    let r = c .before .before .before .before .before in
-    let a = start r .args in
-    let known = c .before .before .before .head .given in
-    let h = known .0 .0 in
-    let e = sym (ap paperHead (known .1)) ∙ r .read-head .ensures in
-    let wide : h .width ≡ lengthWidth = ap (λ (x : TrainHead). x .width) (head-known (a .got .now) e) in
-    let p = first (a .place) (h .width) in
-    gives p (c .before .beginning .ensures) wide
-    (asked p [] 0 (h .width) (ap (versionTold (a .place)) (sym e)) (c .before .beginning .ensures) (c .ask .ensures) refl (omega arith) (omega (arith, wide)))
+    let k = c .before .before in
+    let place = start (at-read k) .args .place in
+    let w = headAt k .width in
+    let p = first place w in
+    let there = c .before .beginning .ensures in
+    gives p there (narrow k)
+    (asked p [] 0 (fieldsWidth w) (ap (versionTold place) (sym (known k))) there (c .ask .ensures) refl (omega arith) (omega (arith, narrow k)))
 
 same-length : tie.Need-same-length
 same-length c = search needs
 
 returns-2 : tie.Need-returns-2
 returns-2 c =
-    let r = c .before .before .before .before .before .before .before .before in
+    let k = c .before .before in
+    let n = k .before .before in
+    let r = n .before .before .before .before in
     let p = start r .args .place in
-    let e = sym (r .read-head .ensures) ∙ ap paperHead (c .before .before .before .before .before .before .refusal .given .1) in
+    let e = sym (r .read-head .ensures) ∙ ap paperHead (n .before .before .refusal .given .1) in
     gives-as
-    (ap (versionTold p) e
-    ∙ ap (λ (n : ℕ). says (awaits p wait.Close) subject.Train (word.Refused n) 0) (sym (c .before .before .before .before .number .ensures)))
-    (c .before .before .say .ensures)
+    (ap (versionTold p) e ∙ ap (λ (n : ℕ). says (awaits p wait.Close) subject.Train (word.Refused n) 0) (sym (n .number .ensures)))
+    (k .say .ensures)
 
 pub version-step-spec : {M : Type 1} → statement M
 version-step-spec =
@@ -74,6 +93,7 @@ version-step-spec =
     read-head-requires
     enum-known-head
     beginning-requires
+    add-ask
     ask-requires
     enum-known-refusal
     number-requires

@@ -56,7 +56,7 @@ small c =
     let s = start (turn c .before) in
     let i = turn c .before .loop .i in
     let l = inside (turn c) in
-    omega (arith, size c, s .pre .0 .some i l, total-each (of s) i l, s .pre .0 .total)
+    omega (arith, size c, s .pre .0 .some i l, total-each (of s) i, s .pre .0 .total)
 
 -- the packet is not full
 free : (c : tie.After-obu-at Inv-loop μ-loop) → isFull (start (turn c .before) .args .room) (turn c .before .loop .p) ≡ false

@@ -4,6 +4,7 @@ use native.Mathlib.Omega.{arith}
 use borrow.Author.Needs.{needs}
 use mathlib.Core.List.{List}
 use lib.ListN.{length, getD, drop}
+use Rattle.obu.specs.Unit.{unitLimit}
 use Rattle.obu.specs.Records.{obusIn}
 use Rattle.obu.specs.declared.Obu.{Obu}
 use Rattle.packetizer.specs.Plan.{alone, planFrom}
@@ -40,7 +41,7 @@ goes : (c : tie.Else1) → start c .args .from < getD (of (start c)) (start c .a
 goes c = start c .pre .1 .1 .inside (c .if1 .left) .1
 
 -- the OBUs can be counted
-few : (c : tie.Start) → length (of c) ≤ 1048576
+few : (c : tie.Start) → length (of c) ≤ unitLimit
 few c = omega (arith, total-count (of c) (c .pre .0 .some), c .pre .0 .total)
 
 cast-i : tie.Need-cast-i

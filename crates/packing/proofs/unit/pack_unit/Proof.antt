@@ -72,9 +72,10 @@ returns-3 c =
     let a = start (whole q) .args in
     let after = q .plan-unit .ensures in
     let is = sym (ap paper (c .before .planned .given .1)) in
-    let ready = unit-ready (a .mtu) (take (a .stated) (a .bytes .now)) (a .obus .now) (a .plan .now) _ (is ∙ ap (λ (x : After). x .answer) after) _ _ (ap (λ (x : After). x .obus) after) (ap (λ (x : After). x .plan) after) in (
+    let long = length-take-le (a .stated) (a .bytes .now) (whole q .if1 .left) in
+    let ready = unit-ready (a .mtu) (take (a .stated) (a .bytes .now)) (a .obus .now) (a .plan .now) _ (omega (arith, long, start (whole q) .pre)) (is ∙ ap (λ (x : After). x .answer) after) _ _ (ap (λ (x : After). x .obus) after) (ap (λ (x : After). x .plan) after) in (
       unit-planned _ (a .mtu) (a .stated) (a .bytes .now) _ (whole q .if1 .left) (is ∙ told q),
-      λ p f. begins-as (length-take-le (a .stated) (a .bytes .now) (whole q .if1 .left)) (packed-one f) ready,
+      λ p f. begins-as long (packed-one f) ready,
     )
 
 pub pack-unit-spec : {M : Type 1} → statement M
