@@ -1,4 +1,4 @@
--- The train file, over the width in bytes of its length fields (T1 to T3, R21 to R23, C4, L11).
+-- The train file, over the width in bytes of its length fields (T1 to T3, R21 to R23, C4, L11, L18).
 use Prim.Native.Nat.{ℕ, _+_, _-_}
 use mathlib.Core.List.{List, [], _∷_, _++_, flatMap}
 use mathlib.Core.Bool.{cond}

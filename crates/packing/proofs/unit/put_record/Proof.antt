@@ -1,4 +1,4 @@
-use mathlib.Core.Path.{_≡_, sym, ap, _∙_}
+use mathlib.Core.Path.{_≡_, sym, ap, subst, _∙_}
 use Prim.Native.Nat.{ℕ, _+_}
 use native.Mathlib.Omega.{arith}
 use mathlib.Core.Bool.{_&&_}
@@ -20,6 +20,7 @@ use Rattle.aggregation.specs.Header.{anyOutside}
 use Rattle.payloader.specs.Payload.{payloadAt}
 use Rattle.payloader.proofs.Packets.{none-outside}
 use Rattle.payloader.proofs.Totals.{payload-length}
+use Rattle.train.specs.Laws.{Writable}
 use Rattle.train.proofs.Fields.{fields-length}
 use Rattle.packing.proofs.Recording.{record-put}
 use borrow.Author.Needs.{needs}
@@ -69,7 +70,9 @@ add-size : tie.Need-add-size
 add-size c = search needs
 
 put-record-head-requires : tie.Need-put-record-head-requires
-put-record-head-requires c κs = let q = c .before .before in rw (sized q) (start q .pre .writable)
+put-record-head-requires c κs =
+    let q = c .before .before in
+    subst (λ (size : ℕ). Writable (start q .args .written .now) 0 (start q .args .width) size) (sym (sized q)) (start q .pre .writable)
 
 new-at-requires : tie.Need-new-at-requires
 new-at-requires c κs =
