@@ -1,9 +1,10 @@
-"""Inputs of `pack`, `unpack` and `planlist`, as `programs`, `planlists` and `runs` give them."""
+"""Inputs of `pack`, `padded`, `unpack` and `planlist`, as `programs`, `planlists` and `runs` give them."""
 import rules
 
 STORE = rules.STORE_BYTES
 SMALL = bytes.fromhex("0A 01 7F 32 00")         # a unit of two OBUs
 KEY = bytes.fromhex("0A 01 00 32 01 10")        # one that begins a sequence, so that N is set
+PADDED = bytes.fromhex("32 80 00 12 81 00 01")  # one of a kept and a dropped OBU, both with a padded size field
 
 
 def pack_input(mtu, first, *units, version=1):
@@ -60,6 +61,38 @@ def planlist_inputs():
     many = KEY + b"\x32\x00" * 5 + b"\x36\x08\x90\x01" + bytes(144) + b"\x32\x02\xA1\xA2" * 3
     for mtu in (3, 4, 6, 7, 8, 9, 10, 12, 20, 131, 132, 133, 300, 1200):
         found["headers_%d.plan" % mtu] = listed(mtu, many)
+    return found
+
+
+def padded_inputs():
+    """F6, G17, by name: inputs of `pack` with padded size fields, for `padded`; none is cut."""
+    dropped, most = b"\x12\x80\x80\x00", b"\x12\x80\x00" * (STORE // 3)
+    found = {
+        # kept and dropped OBUs, none padded, nothing kept, no OBU; the same in version 2; more units than a digit counts
+        "padded.in": pack_input(5, 65_535, PADDED, SMALL, dropped, b"", PADDED),
+        "long_padded.in": pack_input(1_048_576, 0, PADDED, dropped, b"", PADDED, version=2),
+        "padded_units.in": pack_input(20, 0, *(PADDED * (k % 7) for k in range(123))),
+        # each type in turn, and with an extension byte that looks like the first byte of a field
+        "padded_types.in": pack_input(20, 0, *(bytes([8 * k + 2, 0x81, 0, 0xA1]) + SMALL for k in range(16))),
+        "padded_extension.in": pack_input(20, 0, *(bytes([8 * k + 6, 0x80, *field]) for k in (2, 6) for field in ((0,), (0x80, 0)))),
+        # payloads, and OBUs without a size field, that look so
+        "padded_payload.in": pack_input(20, 0, bytes.fromhex("32028000"), bytes.fromhex("308000"), bytes.fromhex("0A800030 8000")),
+        # no packets: the mtu is below 3
+        "padded_mtu_2.in": pack_input(2, 0, PADDED, SMALL),
+        "padded_mtu.in": pack_input(1_048_577, 0, PADDED, version=2),
+        # a refused unit behind a good one: its own padded fields do not count; R8 and R9, and units that just do before them
+        "padded_refused.in": pack_input(20, 0, PADDED, PADDED + b"\x32\x02\xA1", PADDED),
+        "padded_list.in": pack_input(20, 0, b"\x32\x80\x00" * 512, b"\x32\x80\x00" * 513, PADDED),
+        "padded_plan.in": pack_input(3, 0, b"\x32\xFF\x87\x00" + bytes(1023), b"\x32\x80\x88\x00" + bytes(1024), PADDED),
+        # as many as the unit store has room for, all dropped; a field of eight bytes in a unit that fills it
+        "padded_most.in": pack_input(20, 0, most, most[:-3]),
+        "padded_store.in": pack_input(1200, 0, b"\x32" + rules.padded_field(STORE - 9, 8) + bytes(STORE - 9)),
+    }
+    # values in every length that their field can have; the larger ones in the shortest, in one byte more, and in eight
+    for value in (0, 1, 127, 128, 16_383, 16_384):
+        least = rules.field_size(value)
+        sizes = range(least, rules.FIELD_BYTES + 1) if value < 1000 else (least, least + 1, rules.FIELD_BYTES)
+        found["padded_%d.in" % value] = pack_input(1200, 0, *(b"\x32" + rules.padded_field(value, n) + bytes(value) for n in sizes))
     return found
 
 

@@ -4,8 +4,8 @@
 It is written from the rules and shares no code with the Rattle crates or with the Rust. Each function names the
 rules that it carries by their identifiers there. A refusal is the exception Refused, with its number and its offset.
 
-    python3 compare/rules.py                                    the self-test
-    python3 compare/rules.py pack|unpack|planlist|vectors       what that program does, standard input to output
+    python3 compare/rules.py                                        the self-test
+    python3 compare/rules.py pack|padded|unpack|planlist|vectors    what that program does, standard input to output
 """
 import random
 import sys
@@ -29,11 +29,14 @@ SHORT_PAYLOAD = 65_533          # L18, the longest payload of a train of version
 WIDTHS = {1: 2, 2: 4}           # T1, by a train's version the bytes of its length fields
 MTU_BYTES = {1: 2, 2: 4}        # G2, by the version of pack's input the bytes of its mtu
 
+Size = namedtuple("Size", "value used shortest")                        # F3, F6
 Obu = namedtuple("Obu", "header extension start length size")          # O7
+Listed = namedtuple("Listed", "obus padded")                            # O8
 Packet = namedtuple("Packet", "first count offset last size start")     # P2
 State = namedtuple("State", "begun last open")                          # V1
 FRESH = State(False, 0, 0)
-Taken = namedtuple("Taken", "state bytes fragment_lost element_lost")   # V12
+Padded = namedtuple("Padded", "lengths sizes")                          # V18
+Taken = namedtuple("Taken", "state bytes padded fragment_lost element_lost")    # V12, V18
 
 WORDS = {                       # G7, what a refusal says in brackets on standard error
     1: "the mtu is over its limit",
@@ -74,8 +77,13 @@ class Refused(Exception):
 
 # ---- size fields
 
+def is_padded(field):
+    """F6. Whether these bytes of a size field are more than it needs: the last of several adds nothing. No bytes are no field."""
+    return len(field) > 1 and field[-1] == 0
+
+
 def read_field(data, at=0):
-    """F1 to F3. The size field at `at`: value and bytes used, or R5 or R6."""
+    """F1 to F3, F6. The size field at `at`: value, bytes used and whether they are its shortest form, or R5 or R6."""
     left = len(data) - at
     value = 0
     for i in range(min(FIELD_BYTES, left)):
@@ -84,7 +92,7 @@ def read_field(data, at=0):
         if byte < 128:
             if value > FIELD_VALUE:
                 raise Refused(6)
-            return value, i + 1
+            return Size(value, i + 1, not is_padded(data[at:at + i + 1]))
     raise Refused(5 if left < FIELD_BYTES else 6)
 
 
@@ -141,7 +149,7 @@ def obu_at(unit, at):
         if after == len(unit):
             raise Refused(4, at)
         try:
-            length, used = read_field(unit, after)
+            length, used, _ = read_field(unit, after)
         except Refused as bad:
             raise Refused(bad.number, at) from None
         start = after + used
@@ -181,6 +189,16 @@ def kept_obus(unit, space=None):
     return kept
 
 
+def padded_sizes(unit):
+    """F6, O8. How many OBUs of a unit that is not refused have a padded size field, the dropped ones too."""
+    found = at = 0
+    while at < len(unit):
+        obu = obu_at(unit, at)
+        found += is_padded(unit[at + (2 if has_extension(obu.header) else 1):obu.start])
+        at = obu.start + obu.length
+    return found
+
+
 def fill(numbers, records):
     """C9, P15. Write records into the first numbers of a lent flat list; the rest stays."""
     at = 0
@@ -190,10 +208,10 @@ def fill(numbers, records):
 
 
 def parse_obus(unit, obus):
-    """The list call (C1, C5, O8, O9): fills the flat list `obus`, gives the number of kept OBUs, or R2 to R8."""
+    """The list call (C1, C5, O8, O9): fills the flat list `obus`, gives the numbers of kept OBUs and of padded size fields, or R2 to R8."""
     kept = kept_obus(unit, len(obus) // OBU_NUMBERS)
     fill(obus, kept)
-    return len(kept)
+    return Listed(len(kept), padded_sizes(unit))
 
 
 def sent(unit, obu):
@@ -261,7 +279,7 @@ def plan_unit(mtu, unit, obus, plan):
     """The plan call (C2, C5, C6): fills both flat lists, gives the numbers of OBUs and packets, or R1 to R9."""
     if mtu > MTU_LIMIT:
         raise Refused(1)
-    count = parse_obus(unit, obus)
+    count = parse_obus(unit, obus).obus
     packets = plan_of(obus[4:OBU_NUMBERS * count:OBU_NUMBERS], mtu)
     if len(packets) > len(plan) // PLAN_NUMBERS:
         raise Refused(9)
@@ -419,7 +437,7 @@ def check_payload_length(data):
 def one_element(data, at):
     """E4, E6. The element with a length field at `at`: start, length and next cursor, or R16 or R17 at `at`."""
     try:
-        length, used = read_field(data, at)
+        length, used, _ = read_field(data, at)
     except Refused:
         raise Refused(16, at) from None
     start = at + used
@@ -428,8 +446,11 @@ def one_element(data, at):
     return start, length, start + length
 
 
-def elements(data):
-    """E1 to E6. The elements of a payload of good length, or R15, R16 or R17 with the place in the payload."""
+def fields_and_elements(data):
+    """E1 to E6. The elements of a payload of good length, each behind its length field, no bytes where it has none.
+
+    Or R15, R16 or R17 with the place in the payload.
+    """
     if data[0] & 8 and data[0] & 128:
         raise Refused(15)
     w = data[0] >> 4 & 3
@@ -437,13 +458,19 @@ def elements(data):
     while (at < len(data) or not found) if w == 0 else len(found) < w - 1:
         if at == len(data):
             raise Refused(17 if w == 0 else 16, at)
-        start, length, at = one_element(data, at)
-        found.append(data[start:start + length])
+        begins = at
+        start, length, at = one_element(data, begins)
+        found.append((data[begins:start], data[start:start + length]))
     if w > 0:
         if at == len(data):
             raise Refused(17, at)
-        found.append(data[at:])
+        found.append((b"", data[at:]))
     return found
+
+
+def elements(data):
+    """E1 to E6. The elements alone."""
+    return [part for _, part in fields_and_elements(data)]
 
 
 def element(data, k):
@@ -458,8 +485,8 @@ def element(data, k):
 
 # ---- the receiver
 
-def wire(obu):
-    """O11, V9. What a finished OBU hands out, or R18. Dropped types are checked too and hand out nothing."""
+def taken_apart(obu):
+    """O11, V9. The header bytes of a finished OBU, its size field, no bytes where it has none, and its OBU payload; or R18."""
     if not obu:
         raise Refused(18)                           # no element is empty, so the receiver never asks this
     header, after = obu[0], 1
@@ -467,22 +494,28 @@ def wire(obu):
         if len(obu) < 2:
             raise Refused(18)
         after = 2
-    head = obu[:after]
+    body = after
     if has_size(header):
         try:
-            length, used = read_field(obu, after)
+            length, used, _ = read_field(obu, after)
         except Refused:
             raise Refused(18) from None
-        after += used
-        if length != len(obu) - after:
+        body += used
+        if length != len(obu) - body:
             raise Refused(18)
-    if not is_kept(header):
+    return obu[:after], obu[after:body], obu[body:]
+
+
+def wire(obu):
+    """O11, V9. What a finished OBU hands out, or R18. Dropped types are checked too and hand out nothing."""
+    head, _, body = taken_apart(obu)
+    if not is_kept(head[0]):
         return b""
-    return bytes([header | 2]) + head[1:] + write_field(len(obu) - after) + obu[after:]
+    return bytes([head[0] | 2]) + head[1:] + write_field(len(body)) + body
 
 
 def receive(state, number, data, store, out):
-    """The receive call (C3, C8, C10, V2 to V16): what it answers to a packet that it takes, or R12 to R20."""
+    """The receive call (C3, C8, C10, V2 to V16, V18): what it answers to a packet that it takes, or R12 to R20."""
     if state.open > len(store) or state.open > FRAGMENT_LIMIT:
         raise Refused(12)
     check_payload_length(data)
@@ -490,9 +523,10 @@ def receive(state, number, data, store, out):
     if state.begun and not 1 <= distance <= 32_767:
         raise Refused(14)
     try:
-        parts = elements(data)
+        found = fields_and_elements(data)
     except Refused as bad:
         raise Refused(bad.number) from None
+    lengths, parts = [field for field, _ in found], [part for _, part in found]
     z, y = data[0] & 128 != 0, data[0] & 64 != 0
     in_step = state.begun and distance == 1
     fragment_lost = state.open > 0 and not (in_step and z)      # V5
@@ -503,13 +537,15 @@ def receive(state, number, data, store, out):
         parts[0] = bytes(store[:state.open]) + parts[0]         # V6, joined
     left_open = parts.pop() if y and parts else b""
     handed = b"".join([wire(part) for part in parts])
+    sizes = [taken_apart(part)[1] for part in parts]            # V18: where an OBU is finished, wherever its bytes came
+    padded = Padded(sum(map(is_padded, lengths)), sum(map(is_padded, sizes)))
     if len(left_open) > len(store) or len(left_open) > FRAGMENT_LIMIT:
         raise Refused(19)
     if len(handed) > len(out):
         raise Refused(20)
     store[:len(left_open)] = left_open
     out[:len(handed)] = handed
-    return Taken(State(True, number, len(left_open)), len(handed), fragment_lost, element_lost)
+    return Taken(State(True, number, len(left_open)), len(handed), padded, fragment_lost, element_lost)
 
 
 # ---- the train file
@@ -591,15 +627,11 @@ def read_pack_head(source):
     return (int.from_bytes(rest[:width], "big"), int.from_bytes(rest[width:], "big")) if len(rest) == width + 2 else None
 
 
-def pack_steps(source):
-    """G2 to G4, G6, G7. What `pack` does, step by step. The train's version goes by the mtu, not by the input's version."""
-    head = read_pack_head(source)
-    if head is None:
-        yield Said("input: no head")
-        return
-    mtu, number = head
-    version = train_version(mtu)
-    yield Written("train", bytes([version]))
+def unit_steps(source, mtu, steps):
+    """G4, G7. What is done with the units behind the head: `steps` of each that is planned, and a line for one that is cut or refused.
+
+    `steps` is given which unit it is, from 0, the unit, and its records and those of its plan.
+    """
     for index in counted():
         of = "unit %d" % index
         field = source.read(4, of)
@@ -619,12 +651,39 @@ def pack_steps(source):
         except Refused as bad:
             yield refused(of, bad.number)
             return
-        out = bytearray(OUTPUT_BYTES)
-        for made in payloads(unit, records(obus[:OBU_NUMBERS * count], Obu, OBU_NUMBERS),
-                             records(plan[:PLAN_NUMBERS * packets], Packet, PLAN_NUMBERS)):
+        yield from steps(index, unit, records(obus[:OBU_NUMBERS * count], Obu, OBU_NUMBERS),
+                         records(plan[:PLAN_NUMBERS * packets], Packet, PLAN_NUMBERS))
+
+
+def pack_steps(source):
+    """G2 to G4, G6, G7. What `pack` does, step by step. The train's version goes by the mtu, not by the input's version."""
+    head = read_pack_head(source)
+    if head is None:
+        yield Said("input: no head")
+        return
+    mtu, first = head
+    version, numbers, out = train_version(mtu), counted(first), bytearray(OUTPUT_BYTES)
+
+    def packed(index, unit, obus, plan):
+        for made in payloads(unit, obus, plan):
             size = put(out, made)                   # never R10: a payload is hardly longer than its unit, and L12 is half of L14
-            yield Written(of, train_record(number, bytes(out[:size]), version))
-            number = (number + 1) % 65_536
+            yield Written("unit %d" % index, train_record(next(numbers) % 65_536, bytes(out[:size]), version))
+
+    yield Written("train", bytes([version]))
+    yield from unit_steps(source, mtu, packed)
+
+
+def padded_steps(source):
+    """G17. What `padded` does, step by step: it reads and stops as `pack` does, and says the same."""
+    head = read_pack_head(source)
+    if head is None:
+        yield Said("input: no head")
+        return
+
+    def counts(index, unit, obus, plan):
+        yield Written("unit %d" % index, b"%d %d\n" % (index, padded_sizes(unit)))
+
+    yield from unit_steps(source, head[0], counts)
 
 
 def receive_stored(state, number, data, store, out):
@@ -690,7 +749,7 @@ def planlist_steps(source):
         yield Written(of, b"%d %d %d %d %d %d %02X %d\n" % row)
 
 
-STEPS = {"pack": pack_steps, "unpack": unpack_steps, "planlist": planlist_steps}
+STEPS = {"pack": pack_steps, "padded": padded_steps, "unpack": unpack_steps, "planlist": planlist_steps}
 
 
 def run(name, data, fails=False, writes=None):
@@ -872,6 +931,50 @@ WIRE_ROWS = [  # a finished OBU, what it hands out or 18
 ]
 
 
+PADDED_UNITS = [  # unit, its kept OBUs and padded size fields, or the refusal
+    ("", (0, 0)), ("12 00", (0, 0)), ("32 80 00 12 81 00 01", (1, 2)), ("12 80 00", (0, 1)), ("32 80 00", (1, 1)),
+    ("42 81 00 A1 7A 80 80 00 12 80 00 32 00", (1, 3)), ("32 00 0A 81 00 A1 30", (3, 1)), ("32 80 00" * 5, (5, 5)),
+    # bytes that look so: of a payload, of an OBU without a size field, an extension byte
+    ("32 02 80 00", (1, 0)), ("30 80 00", (1, 0)), ("10 80 00", (0, 0)), ("36 80 00", (1, 0)), ("36 80 80 00", (1, 1)),
+    ("34 80 00", (1, 0)),
+    # 2 to 8 bytes; 128 and 16,384 in one byte more than they need
+    *(("32" + "80" * n + "00 3A 01 A1", (2, 1)) for n in range(1, 8)),
+    ("32 80 01" + "A1" * 128, (1, 0)), ("32 80 81 00" + "A1" * 128, (1, 1)), ("32 80 80 01" + "A1" * 16_384, (1, 0)),
+    ("32 80 80 81 00" + "A1" * 16_384, (1, 1)),
+    # a refusal carries no count
+    ("32 80 00 36", [3, 3]), ("32 80 00 32 82 00 A1", [7, 3]), ("32 80 00 32" + "80" * 8 + "00", [6, 3]),
+]
+PADDED_PACKETS = [  # numbers, payloads, and of each its padded length fields and size fields, or its refusal; what is handed out
+    ("three OBUs", "32 00" * 3, (7, "30 81 00 30 81 00 30 32 80 00", 2, 1)),
+    ("nothing padded", "32 01 A1 32 00", (7, "00 03 32 01 A1 01 30", 0, 0)),
+    # W 0, and W with a last element that has no length field; bytes that look so
+    ("W 0", "32 00 32 01 A1 32 00", (7, "00 81 00 30 82 80 00 30 A1 01 30", 2, 0)),
+    ("W 0, eight bytes", "32 01 A1", (7, "00 82 80 80 80 80 80 80 00 30 A1", 1, 0)),
+    ("W 1", "82 01 00", (7, "10 80 00", 0, 0)), ("W 2", "32 00 82 01 00", (7, "20 01 30 80 00", 0, 0)),
+    ("W 3", "32 00 32 00 82 01 00", (7, "30 01 30 81 00 30 80 00", 1, 0)),
+    ("one length of 128", "32 7F" + "A1" * 127 + "32 00", (7, "20 80 01 30" + "A1" * 127 + "30", 0, 0)),
+    ("one length of 128, padded", "32 7F" + "A1" * 127 + "32 00", (7, "20 80 81 00 30" + "A1" * 127 + "30", 1, 0)),
+    # dropped types: lengths and sizes count
+    ("dropped types", "", (7, "10 12 80 00", 0, 1), (8, "00 83 00 12 80 00 84 00 42 81 00 A1 03 7A 80 00", 2, 3)),
+    ("dropped, left open, finished", "", (7, "50 12", 0, 0), (8, "80 82 00 80 00", 1, 1)),
+    # an element thrown away: its length counts, and what would be its size field is not read
+    ("thrown away", "32 00", (7, "A0 81 00 A1 30", 1, 0)), ("thrown away, size bytes", "", (7, "90 32 80 00", 0, 0)),
+    ("thrown away, left open", "", (7, "C0 83 00 32 80 00", 1, 0), (8, "90 A1", 0, 0)),
+    ("out of step", "32 00", (7, "50 32 81 00", 0, 0), (9, "A0 81 00 A1 30", 1, 0)),
+    # left open: the length counts there; the size field where its OBU is finished, once, wherever its bytes came
+    ("left open", "32 01 A1", (7, "40 83 00 32 81 00", 1, 0), (8, "90 A1", 0, 1)),
+    ("over three packets", "32 02 A1 A2", (7, "50 32 82", 0, 0), (8, "D0 00 A1", 0, 0), (9, "90 A2", 0, 1)),
+    ("over four packets, lengths padded", "36 08 01 A1 32 00", (7, "50 36", 0, 0), (8, "C0 81 00 08", 1, 0), (9, "D0 81", 0, 0),
+     (10, "80 82 80 00 00 A1 81 00 30", 2, 1)),
+    ("in the first of three, another behind it", "32 00 32 01 A1 32 00", (7, "60 83 00 32 80 00 32 81", 1, 1), (8, "D0 00", 0, 0),
+     (9, "A0 01 A1 32 80 80 00", 0, 2)),
+    ("never finished", "32 00", (7, "50 32 82 00", 0, 0), (8, "10 30", 0, 0)),
+    # a refusal carries no count, and the same number can come again
+    ("refused, then taken", "32 01 A1", (7, "50 32 81", 0, 0), (7, "90 00 A1", 14), (8, "80 81 00 00", 18), (8, "80 82 00 00 A1", 1, 1)),
+    ("18", "", (7, "20 83 00 32 80 00 32", 18)), ("16", "", (7, "00 81 00 30 80", 16)), ("17", "", (7, "00 81 00 30 82 00 30", 17)),
+]
+
+
 class Test:
     """Counts rows and tells of those that do not hold."""
 
@@ -885,17 +988,31 @@ class Test:
             print("DOES NOT HOLD: %s: got %r, want %r" % (what, got, want))
 
 
+def padded_field(value, used):
+    """F6. A size field of this value in so many bytes, which may be more than it needs."""
+    field = write_field(value)
+    return bytes([byte | 128 for byte in field] + [128] * (used - len(field) - 1) + [0]) if used > len(field) else field
+
+
 def test_fields(t):
     for field, want in [
-        ("", [5, 0]), ("00", (0, 1)), ("7F", (127, 1)), ("80", [5, 0]), ("80 01", (128, 2)), ("AC 02", (300, 2)),
-        ("80" * 7, [5, 0]), ("80" * 8, [6, 0]), ("80" * 8 + "00", [6, 0]), ("80" * 7 + "00", (0, 8)),
-        ("FF FF FF FF 0F", (FIELD_VALUE, 5)), ("80 80 80 80 10", [6, 0]), ("FF FF FF FF 8F 80 80 00", (FIELD_VALUE, 8)),
-        ("82 D8 02", (44_034, 3)),
+        ("", [5, 0]), ("00", (0, 1, True)), ("7F", (127, 1, True)), ("80", [5, 0]), ("80 01", (128, 2, True)), ("AC 02", (300, 2, True)),
+        ("80" * 7, [5, 0]), ("80" * 8, [6, 0]), ("80" * 8 + "00", [6, 0]), ("80" * 7 + "00", (0, 8, False)),
+        ("FF FF FF FF 0F", (FIELD_VALUE, 5, True)), ("80 80 80 80 10", [6, 0]), ("FF FF FF FF 8F 80 80 00", (FIELD_VALUE, 8, False)),
+        ("82 D8 02", (44_034, 3, True)), ("80 00", (0, 2, False)), ("00 00", (0, 1, True)), ("FF 00", (127, 2, False)),
+        ("80 80 01", (16_384, 3, True)), ("80 81 00", (128, 3, False)), ("FF FF FF FF 8F 00", (FIELD_VALUE, 6, False)),
     ]:
         t.same("size field %s" % field, answer(read_field, bytes.fromhex(field)), want)
     for value in [0, 1, 127, 128, 300, 16_383, 16_384, 2_097_151, 2_097_152, UNIT_LIMIT, FIELD_VALUE]:
         field = write_field(value)
-        t.same("written %d" % value, read_field(field + b"\xFF"), (value, field_size(value)))
+        t.same("written %d" % value, read_field(field + b"\xFF"), (value, field_size(value), True))
+        for used in range(len(field) + 1, FIELD_BYTES + 1):
+            t.same("%d in %d bytes" % (value, used), read_field(padded_field(value, used) + b"\xFF"), (value, used, False))
+    # F6 as F4 would have it: fewer bytes would do
+    for byte in range(128):
+        sizes = [read_field(bytes([first, byte])) for first in range(256)]
+        t.same("shortest before and with %02X" % byte, [size.shortest for size in sizes],
+               [size.used == field_size(size.value) for size in sizes])
     t.same("300", write_field(300).hex(), "ac02")
 
 
@@ -904,7 +1021,7 @@ def test_list(t):
     for numbers, want in [(0, [8, 0]), (4, [8, 0]), (5, [8, 2]), (9, [8, 2]), (10, [7, 4]), (15, [7, 4])]:
         t.same("lent %d" % numbers, answer(parse_obus, unit, [9] * numbers), want)
     obus = [9] * 12
-    t.same("answer", parse_obus(bytes.fromhex("12 00 36 08 01 C1"), obus), 1)
+    t.same("answer", parse_obus(bytes.fromhex("12 00 36 08 01 C1"), obus), (1, 0))
     t.same("list, rest untouched", obus, [0x36, 8, 5, 1, 3] + [9] * 7)
     t.same("start of an empty payload", kept_obus(bytes.fromhex("36 08 80 00")), [Obu(0x36, 8, 4, 0, 2)])
     t.same("at the limit", kept_obus(b"\x30" + bytes(UNIT_LIMIT - 1)), [Obu(0x30, 0, 1, UNIT_LIMIT - 1, UNIT_LIMIT)])
@@ -1251,20 +1368,78 @@ def test_receiver(t):
         else:
             handed = bytes.fromhex(want[0])
             t.same("receiver %s" % what, (got, store.hex().upper(), bytes(out)),
-                   ((want[1], len(handed), "F" in want[3], "E" in want[3]), want[2],
+                   ((want[1], len(handed), (0, 0), "F" in want[3], "E" in want[3]), want[2],
                     handed + b"\xEE" * (lent[1] - len(handed))))
     for size in (65_533, 65_534, 65_537, 1_048_576):
         out, want = bytearray(size + 3), b"\x32" + write_field(size - 2) + b"\xA5" * (size - 2)
         got = receive(FRESH, 7, b"\x10\x30" + b"\xA5" * (size - 2), bytearray(), out)
-        t.same("payload of %d bytes" % size, (got, out[:got.bytes]), ((State(True, 7, 0), len(want), False, False), want))
+        t.same("payload of %d bytes" % size, (got, out[:got.bytes]), ((State(True, 7, 0), len(want), (0, 0), False, False), want))
     got = receive(State(True, 0, FRAGMENT_LIMIT - 1), 1, b"\xD0\x30", bytearray(FRAGMENT_LIMIT + 1), bytearray())
-    t.same("open fragment at its limit", got, (State(True, 1, FRAGMENT_LIMIT), 0, False, False))
+    t.same("open fragment at its limit", got, (State(True, 1, FRAGMENT_LIMIT), 0, (0, 0), False, False))
     store, out = bytearray(9), bytearray(9)
     first = receive(FRESH, 41, bytes.fromhex("50 30 A1"), store, out)
     other = receive(first.state, 42, bytes.fromhex("90 B2"), store, out)
     t.same("41 of one train, 42 of another", out[:other.bytes].hex(), "3202a1b2")
     t.same("19 limit", answer(receive, State(True, 0, FRAGMENT_LIMIT), 1, b"\xD0\x30", bytearray(FRAGMENT_LIMIT + 1),
                               bytearray()), [19, 0])
+
+
+def test_padded(t):
+    """F6, O8, V18: padded fields of units and of packets."""
+    for text, want in PADDED_UNITS:
+        t.same("padded in %s" % text[:40], answer(parse_obus, bytes.fromhex(text), [9] * 30), want)
+    t.same("8 before a count", answer(parse_obus, bytes.fromhex("32 80 00 32 80 00"), [9] * 5), [8, 3])
+    for what, handed, *packets in PADDED_PACKETS:
+        state, store, came = FRESH, bytearray(16), b""
+        for number, data, *want in packets:
+            out = bytearray(1000)
+            got = answer(receive, state, number, bytes.fromhex(data), store, out)
+            t.same("padded, %s, %d" % (what, number), list(got.padded) if type(got) is Taken else got[:1], want)
+            if type(got) is Taken:
+                state, came = got.state, came + out[:got.bytes]
+        t.same("handed out, %s" % what, came.hex(), bytes.fromhex(handed).hex())
+
+
+def random_field(rng, value):
+    """A size field of any length, and whether it is padded; worked out from its length."""
+    used = rng.randrange(field_size(value), FIELD_BYTES + 1) if rng.random() < 0.5 else field_size(value)
+    return padded_field(value, used), used > field_size(value)
+
+
+def test_padded_runs(t):
+    """V18 on random runs of another sender's packets: each has its padded lengths; a size counts in the last packet of its OBU."""
+    rng = random.Random(9)
+    for run in range(400):
+        pieces, packets = [], []                    # of an OBU its number, where the piece stands in it, its bytes; elements of packets
+        padded = []                                 # whether the OBU's size field is
+        for k in range(rng.randrange(1, 9)):
+            length = rng.choice([0, 1, 3, 9])
+            field, more = random_field(rng, length)
+            obu = bytes([rng.choice([0x12, 0x32, 0x7A])]) + field + bytes(length)
+            cuts = sorted({0, len(obu), *(rng.randrange(len(obu)) for _ in range(rng.randrange(4)))})
+            pieces += [(k, a, b == len(obu), obu[a:b]) for a, b in zip(cuts, cuts[1:])]
+            padded.append(more)
+        while pieces:
+            n = 1
+            while n < len(pieces) and pieces[n - 1][2] and rng.random() < 0.6:      # an element that goes on is the packet's last
+                n += 1
+            packets, pieces = packets + [pieces[:n]], pieces[n:]
+        came = [k for k in range(len(packets)) if rng.random() > 0.15]
+        state, store, out = FRESH, bytearray(99), bytearray(999)
+        for k in came:
+            here, w, lengths = packets[k], len(packets[k]) if len(packets[k]) < 4 and rng.random() < 0.5 else 0, 0
+            data = bytearray([128 * (here[0][1] > 0) + 64 * (not here[-1][2]) + 16 * w])
+            for place, (_, _, _, part) in enumerate(here):
+                if w == 0 or place < w - 1:
+                    field, more = random_field(rng, len(part))
+                    data, lengths = data + field, lengths + more
+                data += part
+            finished = {obu for obu, _, last, _ in here if last}
+            theirs = {obu: [j for j, elements in enumerate(packets) if any(e[0] == obu for e in elements)] for obu in finished}
+            sizes = sum(padded[obu] for obu in finished if set(theirs[obu]) <= set(came))
+            got = receive(state, k, bytes(data), store, out)
+            t.same("padded, run %d, packet %d, %s" % (run, k, data.hex()), got.padded, (lengths, sizes))
+            state = got.state
 
 
 def test_delivery(t):
@@ -1292,7 +1467,8 @@ def test_delivery(t):
         for k in arrivals:
             out = bytearray(largest + 4 * max(mtus))
             try:
-                state, count, _, _ = receive(state, (number + k) % 65_536, packets[k], store, out)
+                state, count, padded, _, _ = receive(state, (number + k) % 65_536, packets[k], store, out)
+                t.same("run %d, nothing padded" % run, padded, (0, 0))
                 came += out[:count]
             except Refused as bad:
                 refused += 1
@@ -1339,6 +1515,7 @@ def test_programs(t):
          (b"\x01", b"unit 0: 4 (an OBU's size field is missing)\n")),
     ]:
         t.same("pack, %s" % what, outputs("pack", data), want)
+        t.same("padded says what pack says, %s" % what, outputs("padded", data)[1], want[1])
     t.same("unpack", outputs("unpack", train), (bytes.fromhex("0A 01 7F 32 00 32 00"), b""))
     for what, file, written, *said in [
         ("empty", "", "", "train: 21 (no train of a known version)"),
@@ -1371,6 +1548,29 @@ def test_programs(t):
     t.same("words of each refusal", (sorted(WORDS), len(set(WORDS.values()))), ([*range(1, 24), 31], 24))
 
 
+def test_padded_program(t):
+    """G17: a line for each unit that `pack` packs, one without packets too, up to where it stops."""
+    def file(*units, mtu=5, version=1):
+        return pack_head(version, mtu) + b"".join(len(unit).to_bytes(4, "big") + unit for unit in map(bytes.fromhex, units))
+    two, none, dropped = "32 80 00 12 81 00 01", "0A 01 7F 32 00", "12 80 80 00"
+    over = b"unit 0: 1 (the mtu is over its limit)\n"
+    for what, data, want in [
+        ("units", file(two, none, dropped, "", two), (b"0 2\n1 0\n2 1\n3 0\n4 2\n", b"")),
+        ("version 2", file(two, "", version=2, mtu=1_048_576), (b"0 2\n1 0\n", b"")),
+        ("mtu 2, no packets", file(two, mtu=2), (b"0 2\n", b"")), ("mtu over its limit", file(two, version=2, mtu=1_048_577), (b"", over)),
+        ("nothing", file(), (b"", b"")), ("empty", b"", (b"", b"input: no head\n")),
+        ("head cut", file()[:-1], (b"", b"input: no head\n")), ("version 3", b"\3" + file(two)[1:], (b"", b"input: no head\n")),
+        ("cut", file(two, two)[:-1], (b"0 2\n", b"unit 1: cut\n")), ("length cut", file(two) + bytes(3), (b"0 2\n", b"unit 1: cut\n")),
+        ("store", file(two) + (STORE_BYTES + 1).to_bytes(4, "big") + b"\x30" * (STORE_BYTES + 1), (b"0 2\n", b"unit 1: cut\n")),
+        ("refused", file(two, two + "32", two), (b"0 2\n", b"unit 1: 4 (an OBU's size field is missing)\n")),
+        ("513 OBUs", file("32 80 00" * 512, "32 80 00" * 513), (b"0 512\n", b"unit 1: 8 (the OBU list is full)\n")),
+        ("513 packets", file("32 FF 87 00" + "A1" * 1023, "32 80 88 00" + "A1" * 1024, mtu=3),
+         (b"0 1\n", b"unit 1: 9 (the plan list is too short)\n")),
+    ]:
+        t.same("padded, %s" % what, outputs("padded", data), want)
+        t.same("pack says so too, %s" % what, outputs("pack", data)[1], want[1])
+
+
 def pack_head(version, mtu):
     """A head of pack's input of this version, the first number being 65,535."""
     return bytes([version]) + mtu.to_bytes(MTU_BYTES[version], "big") + b"\xFF\xFF"
@@ -1391,6 +1591,8 @@ def test_pack_versions(t):
     ]:
         t.same("pack, version %d, mtu %d" % (version, mtu), outputs("pack", pack_head(version, mtu) + unit), want)
         t.same("the same, head alone", outputs("pack", pack_head(version, mtu)), (want[0][:1], b""))
+        t.same("padded, version %d, mtu %d" % (version, mtu), outputs("padded", pack_head(version, mtu) + unit),
+               (b"" if want[1] else b"0 0\n1 0\n", want[1]))
     for n in range(7):
         t.same("pack, version 2, %d bytes" % n, outputs("pack", pack_head(2, 1_048_576)[:n]), (b"", b"input: no head\n"))
     # an OBU that needs a record of version 2 does not fit the unit store: the largest one there is
@@ -1481,6 +1683,10 @@ def test_failures(t):
         ("pack", b"\3", b"input: no head\n"),
         ("pack", units[:4], b"input: read failed\n"), ("pack", units[:5], b"\1unit 0: read failed\n"),
         ("pack", units[:9], b"\1unit 1: read failed\n"), ("pack", units[:17], b"\1unit 1: read failed\n"),
+        ("padded", units[:0], b"input: read failed\n"), ("padded", b"\2\0\0\0\5\0", b"input: read failed\n"),
+        ("padded", b"\3", b"input: no head\n"), ("padded", units[:5], b"unit 0: read failed\n"),
+        ("padded", units[:8], b"unit 0: read failed\n"), ("padded", units[:9], b"0 0\nunit 1: read failed\n"),
+        ("padded", units[:17], b"0 0\nunit 1: read failed\n"), ("padded", units, b"0 0\n1 0\nunit 2: read failed\n"),
         ("planlist", listed[:0], b"input: read failed\n"), ("planlist", listed[:6], b"input: read failed\n"),
         ("planlist", listed[:7], b"unit 0: read failed\n"), ("planlist", listed[:11], b"unit 0: read failed\n"),
         ("planlist", listed, b"unit 0: read failed\n"), ("planlist", listed + b"\0", b"bad input\n"),
@@ -1496,6 +1702,8 @@ def test_failures(t):
         ("pack", units, 0, b"train: write failed\n"), ("pack", units, 1, b"\1unit 1: write failed\n"),
         ("pack", units, 2, b"\1" + first + b"unit 1: write failed\n"), ("pack", units[:9], 1, b"\1"),
         ("pack", units[:4], 0, b"input: no head\n"),
+        ("padded", units, 0, b"unit 0: write failed\n"), ("padded", units, 1, b"0 0\nunit 1: write failed\n"),
+        ("padded", units[:5], 0, b""), ("padded", units[:4], 0, b"input: no head\n"), ("padded", units[:6], 0, b"unit 0: cut\n"),
         ("planlist", listed, 0, b"unit 0: write failed\n"), ("planlist", listed, 2, rows[0] + rows[1] + b"unit 0: write failed\n"),
         ("planlist", listed, 3, b"".join(rows)), ("planlist", b"", 0, b"unit 0: write failed\n"),
     ]:
@@ -1507,8 +1715,9 @@ def test_failures(t):
 def self_test():
     t = Test()
     for test in (test_fields, test_list, test_plan, test_law, test_vectors, test_left, test_writing, test_differ, test_no_packets,
-                 test_apart, test_header, test_inside, test_new, test_elements, test_receiver, test_delivery, test_programs,
-                 test_pack_versions, test_train_versions, test_payload_store, test_failures):
+                 test_apart, test_header, test_inside, test_new, test_elements, test_receiver, test_padded, test_padded_runs,
+                 test_delivery, test_programs, test_padded_program, test_pack_versions, test_train_versions, test_payload_store,
+                 test_failures):
         test(t)
     print("%d rows, %d do not hold" % (t.rows, t.failed))
     return 1 if t.failed else 0
@@ -1525,7 +1734,7 @@ def main(words):
     if words == ["vectors"]:
         sys.stdout.write(vectors(sys.stdin.read()))
         return 0
-    print("usage: rules.py [pack|unpack|planlist|vectors]", file=sys.stderr)
+    print("usage: rules.py [pack|padded|unpack|planlist|vectors]", file=sys.stderr)
     return 2
 
 

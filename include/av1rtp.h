@@ -22,6 +22,9 @@
  * ANSWERS. A call returns 0, or the number of a refusal, and fills four words:
  *   answer[0]       the offset that a refusal carries (R2 to R8: of the OBU's header byte in the unit), else 0
  *   answer[1..3]    what was asked for, as said at each call; all 0 on a refusal
+ *
+ * PADDED FIELDS. A size field may have more bytes than its value needs, as 80 00 has for 0: it is padded. av1rtp_size_field says so of
+ * the field that it reads, av1rtp_list and av1rtp_receive say how many they met. No call refuses a field for it, and none writes one.
  */
 #ifndef AV1RTP_H
 #define AV1RTP_H
@@ -86,8 +89,8 @@ enum av1rtp_refusal {
 /* ---- sending */
 
 /* The kept OBUs of a unit, as records of AV1RTP_OBU_NUMBERS numbers, first in `obus`; the numbers after them stay. An unfinished
- * record at the end of a list does not count.
- * answer: offset, OBUs. Refusals 2 to 8. */
+ * record at the end of a list does not count. Padded size fields are counted over all OBUs of the unit, the dropped ones too.
+ * answer: offset, OBUs, padded size fields. Refusals 2 to 8. */
 uint32_t av1rtp_list(const uint8_t *unit, size_t unit_length, uint32_t *obus, size_t obus_length, size_t answer[4]);
 
 /* The same, and the plan: which bytes of which kept OBUs go into which packet, and where its payload starts among all payloads, as
@@ -129,8 +132,10 @@ uint32_t av1rtp_header(const uint8_t *unit, size_t unit_length, const uint32_t *
 /* Takes the packet of this number. What it finishes is in `out`: OBUs with size fields, one after the other. What stays open is in
  * `store`. Give state and store to the next call as this one left them, and begin each train with {0, 0, 0}. In a state any first
  * word but 0 means begun, and of the second the low 16 bits count. No packet of our sender is refused for space if the store is as
- * long as the largest kept OBU and the output as that and four times the largest mtu.
- * answer: 0, bytes handed out. Refusals 12 to 20. */
+ * long as the largest kept OBU and the output as that and four times the largest mtu. The padded fields, in one number, are length
+ * fields of the packet's elements, of one that is thrown away too, and the size fields inside the OBUs that it finishes, dropped ones too:
+ * a size field that came in an earlier packet counts where its OBU is finished.
+ * answer: 0, bytes handed out, padded fields. Refusals 12 to 20. */
 uint32_t av1rtp_receive(size_t state[3], uint16_t number, const uint8_t *payload, size_t payload_length, uint8_t *store,
                         size_t store_length, uint8_t *out, size_t out_length, size_t answer[4]);
 
@@ -159,8 +164,8 @@ void av1rtp_train_record_head(uint32_t stated, uint16_t number, size_t width, ui
 
 /* ---- size fields */
 
-/* The size field (leb128) at the front of some bytes.
- * answer: 0, value, bytes used. Refusals 5, 6. */
+/* The size field (leb128) at the front of some bytes. Its last word is 1 if no fewer bytes would do, 0 if it is padded.
+ * answer: 0, value, bytes used, shortest. Refusals 5, 6. */
 uint32_t av1rtp_size_field(const uint8_t *bytes, size_t bytes_length, size_t answer[4]);
 
 #ifdef __cplusplus

@@ -99,7 +99,8 @@ impl Work {
     pub fn back(&mut self) {
         let (mut state, mut at) = (State::default(), 0);
         for (k, payload) in self.payloads.iter().enumerate() {
-            at += lent::receive(&mut state, k as u16, payload, &mut self.store, &mut self.back[at..]).unwrap();
+            let received = lent::receive(&mut state, k as u16, payload, &mut self.store, &mut self.back[at..]);
+            at += received.unwrap().bytes;
         }
         black_box(&self.back);
     }

@@ -11,6 +11,26 @@ pub const OBU_NUMBERS: usize = 5;
 /// The numbers of a record in a plan: first OBU, elements, first offset, last size, packet size, payload start.
 pub const PLAN_NUMBERS: usize = 6;
 
+/// What the size-field call reads.
+#[derive(Clone, Copy, Debug, PartialEq, Eq)]
+pub struct SizeField {
+    /// The value.
+    pub value: u32,
+    /// The bytes that the field takes.
+    pub used: usize,
+    /// Whether they are the shortest form of the value; a longer one is padded.
+    pub shortest: bool,
+}
+
+/// What the list call finds.
+#[derive(Clone, Copy, Debug, PartialEq, Eq)]
+pub struct Listed {
+    /// Kept OBUs, whose records are first in the OBU list.
+    pub obus: usize,
+    /// OBUs of the unit, dropped ones too, whose size field is padded.
+    pub padded: usize,
+}
+
 /// What the plan call finds.
 #[derive(Clone, Copy, Debug, PartialEq, Eq)]
 pub struct Planned {
@@ -46,6 +66,16 @@ impl State {
     pub fn open(&self) -> usize {
         self.words[2]
     }
+}
+
+/// What a packet that is taken gives.
+#[derive(Clone, Copy, Debug, PartialEq, Eq)]
+pub struct Received {
+    /// Bytes of the OBUs that it finishes, which are first in the output.
+    pub bytes: usize,
+    /// Its padded fields: length fields of its elements, thrown away or not, and size fields inside the OBUs that it finishes, dropped
+    /// ones too. A size field that came in an earlier packet counts where its OBU is finished.
+    pub padded: usize,
 }
 
 /// An element's place in its payload, and how many elements there are.
@@ -94,10 +124,10 @@ fn answered(call: impl FnOnce(&mut Answer) -> u32) -> Result<[usize; 3], Refusal
     }
 }
 
-/// The list call: how many OBUs of a unit are kept. Refusals 2 to 8.
+/// The list call: how many OBUs of a unit are kept, and how many size fields are padded. Refusals 2 to 8.
 #[inline]
-pub fn list(unit: &[u8], obus: &mut [u32]) -> Result<usize, Refusal> {
-    answered(|answer| ffi::list(unit, obus, answer)).map(|[obus, _, _]| obus)
+pub fn list(unit: &[u8], obus: &mut [u32]) -> Result<Listed, Refusal> {
+    answered(|answer| ffi::list(unit, obus, answer)).map(|[obus, padded, _]| Listed { obus, padded })
 }
 
 /// The plan call: list and plan, which the writing calls take. Refusals 1 to 9.
@@ -159,7 +189,8 @@ pub fn element(payload: &[u8], k: usize) -> Result<ElementPlace, Refusal> {
     })
 }
 
-/// The receive call: takes one packet, and gives how many bytes of OBUs are first in `out`. Refusals 12 to 20.
+/// The receive call: takes one packet, and gives how many bytes of OBUs are first in `out`, and how many of its fields are padded.
+/// Refusals 12 to 20.
 #[inline]
 pub fn receive(
     state: &mut State,
@@ -167,9 +198,9 @@ pub fn receive(
     payload: &[u8],
     store: &mut [u8],
     out: &mut [u8],
-) -> Result<usize, Refusal> {
+) -> Result<Received, Refusal> {
     answered(|answer| ffi::receive(&mut state.words, number, payload, store, out, answer))
-        .map(|[bytes, _, _]| bytes)
+        .map(|[bytes, padded, _]| Received { bytes, padded })
 }
 
 /// The head of a train; its first record begins at 1. Refusal 21.
@@ -196,8 +227,13 @@ pub fn train_record_head(stated: u32, number: u16, width: usize, head: &mut [u8;
     ffi::train_record_head(stated, number, width, head)
 }
 
-/// The value of the size field (leb128) at the front of some bytes, and the bytes that it takes. Refusals 5 and 6.
+/// The size field (leb128) at the front of some bytes: its value, the bytes that it takes, and whether it is the shortest form. Refusals
+/// 5 and 6.
 #[inline]
-pub fn size_field(bytes: &[u8]) -> Result<(u32, usize), Refusal> {
-    answered(|answer| ffi::size_field(bytes, answer)).map(|[value, used, _]| (value as u32, used))
+pub fn size_field(bytes: &[u8]) -> Result<SizeField, Refusal> {
+    answered(|answer| ffi::size_field(bytes, answer)).map(|[value, used, shortest]| SizeField {
+        value: value as u32,
+        used,
+        shortest: shortest != 0,
+    })
 }

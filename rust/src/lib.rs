@@ -3,7 +3,8 @@
 //! [`payload`] makes the payloads of a temporal unit; [`Payloader`] does so for many, all packets of a unit at once or one at a time
 //! into a buffer of the caller's. [`Receiver`] takes the packets of one train and hands out OBUs; [`train`] reads and writes trains.
 //! [`list`] and [`plan`] say where things stand in a unit, for inspection: no position from them goes into an export, and only trains
-//! leave the house. [`lent`] has the calls as they are, over buffers of the caller's.
+//! leave the house. [`padded`] and [`Receiver::padded`] count size fields that are longer than they need to be. [`lent`] has the calls as
+//! they are, over buffers of the caller's.
 //!
 //! What is refused, when, and by which number is in `docs/RULES.md`; [`Refusal`] carries the number, and its words.
 //!
@@ -24,7 +25,7 @@ pub mod train;
 pub use payloads::{OwnedPayloads, Payloads};
 pub use receiver::{element, elements, Receiver};
 pub use refusal::{Reason, Refusal};
-pub use sender::{list, payload, plan, Obu, PacketMetadata, Payloader, Plan, PlannedUnit};
+pub use sender::{list, padded, payload, plan, Obu, PacketMetadata, Payloader, Plan, PlannedUnit};
 
 /// The most bytes of a unit.
 pub const UNIT_LIMIT: usize = 1_048_576;

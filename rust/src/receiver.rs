@@ -19,6 +19,7 @@ pub struct Receiver {
     store: Vec<u8>,
     out: Vec<u8>,
     longest: usize,
+    padded: usize,
 }
 
 /// More than a packet can ever hand out: the open fragment, and the payload with a size field for each of its elements.
@@ -46,6 +47,7 @@ impl Receiver {
             store: Vec::new(),
             out: Vec::new(),
             longest: bytes.min(FRAGMENT_LIMIT),
+            padded: 0,
         }
     }
 
@@ -55,7 +57,10 @@ impl Receiver {
     pub fn receive(&mut self, number: u16, payload: &[u8]) -> Result<&[u8], Refusal> {
         loop {
             match lent::receive(&mut self.state, number, payload, &mut self.store, &mut self.out) {
-                Ok(bytes) => return Ok(&self.out[..bytes]),
+                Ok(received) => {
+                    self.padded = received.padded;
+                    return Ok(&self.out[..received.bytes]);
+                }
                 Err(refusal) => self.make_room(refusal, payload.len())?,
             }
         }
@@ -64,6 +69,19 @@ impl Receiver {
     /// How many bytes of an unfinished OBU are held.
     pub fn open(&self) -> usize {
         self.state.open()
+    }
+
+    /// How many fields of the last packet taken are padded, that is longer than their values need: length fields of its elements, thrown
+    /// away or not, and size fields inside the OBUs that it finished, dropped ones too. 0 before the first; a refusal leaves it.
+    ///
+    /// ```
+    /// let mut receiver = av1rtp::Receiver::new();
+    /// let payload = [0x30, 0x81, 0x00, 0x30, 0x81, 0x00, 0x30, 0x32, 0x80, 0x00];
+    /// assert_eq!(receiver.receive(0, &payload), Ok(&[0x32, 0x00, 0x32, 0x00, 0x32, 0x00][..]));
+    /// assert_eq!(receiver.padded(), 3);
+    /// ```
+    pub fn padded(&self) -> usize {
+        self.padded
     }
 
     /// What refusals 19 and 20 ask for; any other stands.

@@ -1,7 +1,7 @@
 //! Sending: a unit to payloads, first the plan and then the packets. The lists are sized by a guess and grown on refusals 8 and 9,
 //! within the proved bounds: a unit has no more kept OBUs than bytes, and its plan no more records than the kept OBUs have bytes. The
 //! output is sized by the plan.
-use crate::lent::{self, Planned, OBU_NUMBERS, PLAN_NUMBERS};
+use crate::lent::{self, Listed, Planned, OBU_NUMBERS, PLAN_NUMBERS};
 use crate::payloads::{bytes_of, OwnedPayloads, Payloads};
 use crate::{Reason, Refusal, LEAST_MTU, MTU_LIMIT, UNIT_LIMIT};
 
@@ -135,19 +135,30 @@ impl Payloader {
 
     /// The kept OBUs of a unit. Refusals 2 to 7.
     pub fn list(&mut self, unit: &[u8]) -> Result<Vec<Obu>, Refusal> {
-        self.begin(0, unit);
-        loop {
-            match lent::list(unit, &mut self.obus) {
-                Ok(obus) => return Ok(self.obus(obus)),
-                Err(refusal) => self.make_room(refusal, unit)?,
-            }
-        }
+        let listed = self.fill_list(unit)?;
+        Ok(self.obus(listed.obus))
+    }
+
+    /// How many OBUs of a unit, dropped ones too, have a padded size field, that is one longer than its value needs. Refusals 2 to 7.
+    pub fn padded(&mut self, unit: &[u8]) -> Result<usize, Refusal> {
+        Ok(self.fill_list(unit)?.padded)
     }
 
     /// The kept OBUs of a unit, and the plan of its packets, to be looked at. Refusals 1 to 7.
     pub fn plan(&mut self, mtu: usize, unit: &[u8]) -> Result<Plan, Refusal> {
         let filled = self.fill(mtu, unit)?;
         Ok(Plan { obus: self.obus(filled.obus), packets: self.packets(filled.packets) })
+    }
+
+    /// Fills the list.
+    fn fill_list(&mut self, unit: &[u8]) -> Result<Listed, Refusal> {
+        self.begin(0, unit);
+        loop {
+            match lent::list(unit, &mut self.obus) {
+                Ok(listed) => return Ok(listed),
+                Err(refusal) => self.make_room(refusal, unit)?,
+            }
+        }
     }
 
     /// Fills list and plan.
@@ -266,6 +277,16 @@ pub fn payload(unit: &[u8], mtu: usize) -> Result<OwnedPayloads, Refusal> {
 /// The kept OBUs of a unit: [`Payloader::list`] for a single unit.
 pub fn list(unit: &[u8]) -> Result<Vec<Obu>, Refusal> {
     Payloader::new().list(unit)
+}
+
+/// How many size fields of a unit are padded: [`Payloader::padded`] for a single unit.
+///
+/// ```
+/// assert_eq!(av1rtp::padded(&[0x32, 0x80, 0x00, 0x12, 0x81, 0x00, 0x01])?, 2);   // a frame, and a temporal delimiter
+/// # Ok::<(), av1rtp::Refusal>(())
+/// ```
+pub fn padded(unit: &[u8]) -> Result<usize, Refusal> {
+    Payloader::new().padded(unit)
 }
 
 /// The kept OBUs of a unit and the plan of its packets: [`Payloader::plan`] for a single unit.

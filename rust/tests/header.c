@@ -382,9 +382,60 @@ static void record_heads(void) {
 }
 
 static void size_fields(void) {
-    static const uint8_t field[] = {0xAC, 0x02};
-    EXPECT(av1rtp_size_field(field, 2, answer) == 0 && words(answer, 0, 300, 2, 0));
-    EXPECT(av1rtp_size_field(field, 1, answer) == AV1RTP_SIZE_UNFINISHED);
+    static const uint8_t field[] = {0xAC, 0x02}, padded[] = {0x80, 0x00}, longest[] = {0xFF, 0xFF, 0xFF, 0xFF, 0x8F, 0x80, 0x80, 0x00};
+    EXPECT(av1rtp_size_field(field, 2, answer) == 0 && words(answer, 0, 300, 2, 1));
+    EXPECT(av1rtp_size_field(field, 1, answer) == AV1RTP_SIZE_UNFINISHED && words(answer, 0, 0, 0, 0));
+    EXPECT(av1rtp_size_field(padded, 2, answer) == 0 && words(answer, 0, 0, 2, 0));
+    EXPECT(av1rtp_size_field(padded + 1, 1, answer) == 0 && words(answer, 0, 0, 1, 1));
+    EXPECT(av1rtp_size_field(longest, 8, answer) == 0 && words(answer, 0, 4294967295, 8, 0));
+    EXPECT(av1rtp_size_field(longest, 7, answer) == AV1RTP_SIZE_UNFINISHED && words(answer, 0, 0, 0, 0));
+}
+
+/* ---- padded fields: of a unit, and of packets */
+
+static void padded_units(void) {
+    static const struct { uint8_t bytes[16]; size_t length, obus, padded; } rows[] = {
+        {{0x32, 0x80, 0x00, 0x12, 0x81, 0x00, 0x01}, 7, 1, 2},
+        {{0x32, 0x00, 0x12, 0x00}, 4, 1, 0},
+        {{0x12, 0x80, 0x80, 0x00}, 4, 0, 1},
+        {{0x36, 0x80, 0x00, 0x36, 0x80, 0x80, 0x00}, 7, 2, 1},           /* extension bytes that look so */
+        {{0x32, 0x02, 0x80, 0x00, 0x30, 0x80, 0x00}, 7, 2, 0},           /* payloads that look so */
+        {{0x32, 0x80, 0x80, 0x80, 0x80, 0x80, 0x80, 0x80, 0x00}, 9, 1, 1},
+        {{0}, 0, 0, 0},
+    };
+    uint32_t obus[10];
+    for (size_t i = 0; i < sizeof rows / sizeof rows[0]; i++) {
+        EXPECT(av1rtp_list(rows[i].bytes, rows[i].length, obus, 10, answer) == 0);
+        EXPECT(words(answer, 0, rows[i].obus, rows[i].padded, 0));
+    }
+    /* a refusal carries no count, and the plan call has none */
+    EXPECT(av1rtp_list(rows[0].bytes, 6, obus, 10, answer) == AV1RTP_PAYLOAD_PAST_UNIT && words(answer, 3, 0, 0, 0));
+    EXPECT(av1rtp_list(rows[0].bytes, 7, obus, 4, answer) == AV1RTP_OBU_LIST_FULL && words(answer, 0, 0, 0, 0));
+    uint32_t plan[12];
+    EXPECT(av1rtp_plan(5, rows[0].bytes, 7, obus, 10, plan, 12, answer) == 0 && words(answer, 0, 1, 1, 0));
+}
+
+static void padded_packets(void) {
+    /* one run of packets: what each hands out, and its padded fields */
+    static const struct { uint16_t number; uint8_t bytes[16]; size_t length, handed, padded; } rows[] = {
+        {7, {0x30, 0x81, 0x00, 0x30, 0x81, 0x00, 0x30, 0x32, 0x80, 0x00}, 10, 6, 3},
+        {8, {0xA0, 0x81, 0x00, 0xA1, 0x30}, 5, 2, 1},                                       /* in an element thrown away */
+        {9, {0x00, 0x83, 0x00, 0x12, 0x80, 0x00, 0x03, 0x7A, 0x80, 0x00}, 10, 0, 3},        /* dropped types */
+        {10, {0x50, 0x32, 0x82}, 3, 0, 0},                                                  /* a size field over three packets */
+        {11, {0xC0, 0x81, 0x00, 0x00}, 4, 0, 1},
+        {12, {0x90, 0xA1, 0xA2}, 3, 4, 1},
+        {13, {0x10, 0x80, 0x00}, 3, 3, 0},                                                  /* no field */
+        {15, {0x90, 0x32, 0x80, 0x00}, 4, 0, 0},
+    };
+    static const uint8_t broken_size[] = {0x20, 0x83, 0x00, 0x32, 0x80, 0x00, 0x32};
+    size_t state[AV1RTP_STATE_WORDS] = {0, 0, 0};
+    uint8_t store[4];
+    for (size_t i = 0; i < sizeof rows / sizeof rows[0]; i++) {
+        EXPECT(av1rtp_receive(state, rows[i].number, rows[i].bytes, rows[i].length, store, 4, out, 16, answer) == 0);
+        EXPECT(words(answer, 0, rows[i].handed, rows[i].padded, 0));
+    }
+    EXPECT(av1rtp_receive(state, 16, broken_size, sizeof broken_size, store, 4, out, 16, answer) == AV1RTP_OBU_BROKEN);
+    EXPECT(words(answer, 0, 0, 0, 0));
 }
 
 int main(void) {
@@ -399,6 +450,8 @@ int main(void) {
     records_of_trains();
     record_heads();
     size_fields();
+    padded_units();
+    padded_packets();
     if (!failed) {
         printf("header.c: ok\n");
     }

@@ -293,11 +293,13 @@ fn widths() {
 
 #[test]
 fn size_fields() {
-    assert_eq!(lent::size_field(&[0xAC, 0x02, 0xFF]), Ok((300, 2)));
-    assert_eq!(lent::size_field(&[0x80, 0x80, 0x80, 0x80, 0x80, 0x80, 0x80, 0x00]), Ok((0, 8)));
-    assert_eq!(lent::size_field(&[0xFF; 7]).unwrap_err().number(), 5);
-    assert_eq!(lent::size_field(&[0xFF; 8]).unwrap_err().number(), 6);
-    assert_eq!(lent::size_field(&[0x80, 0x80, 0x80, 0x80, 0x10]).unwrap_err().number(), 6);
+    let read = |bytes: &[u8]| lent::size_field(bytes).map(|field| (field.value, field.used, field.shortest));
+    assert_eq!(read(&[0xAC, 0x02, 0xFF]), Ok((300, 2, true)));
+    assert_eq!(read(&[0x80, 0x00]), Ok((0, 2, false)));
+    assert_eq!(read(&[0x80, 0x80, 0x80, 0x80, 0x80, 0x80, 0x80, 0x00]), Ok((0, 8, false)));
+    assert_eq!(read(&[0xFF; 7]).unwrap_err().number(), 5);
+    assert_eq!(read(&[0xFF; 8]).unwrap_err().number(), 6);
+    assert_eq!(read(&[0x80, 0x80, 0x80, 0x80, 0x10]).unwrap_err().number(), 6);
 }
 
 #[test]

@@ -1,5 +1,5 @@
 -- What crosses says all, but for what the receive call threw away: number and words tell the answers apart, and a state that is handed on is that state. Assumes nothing.
-use mathlib.Core.Path.{_≡_, refl, ap, ap₂}
+use mathlib.Core.Path.{_≡_, refl, sym, ap, ap₂, _∙_}
 use Prim.Native.Nat.{ℕ, _<_}
 use native.Mathlib.Nat.{mod-eq-of-lt}
 use native.Mathlib.Omega.{arith}
@@ -8,6 +8,7 @@ use mathlib.Core.List.{List, [], _∷_}
 use lib.Dec.{ltb}
 use Rattle.base.specs.Answers.{Answer, given, refused}
 use Rattle.leb128.specs.declared.SizeField.{SizeField}
+use Rattle.obu.specs.declared.Listed.{Listed}
 use Rattle.packetizer.specs.declared.Planned.{Planned}
 use Rattle.payloader.specs.declared.Written.{Written}
 use Rattle.receiver.specs.Joining.{fresh}
@@ -16,7 +17,7 @@ use Rattle.receiver.specs.declared.State.{State}
 use Rattle.train.specs.declared.TrainHead.{TrainHead}
 use Rattle.train.specs.declared.RecordHead.{RecordHead}
 use Rattle.av1rtp.specs.Words.{numberIn, wordsIn, Named}
-use Rattle.av1rtp.specs.Calls.{one, plannedWords, writtenWords, fieldWords, headWords, recordWords, stateIn, stateWords}
+use Rattle.av1rtp.specs.Calls.{one, listedWords, plannedWords, writtenWords, fieldWords, headWords, recordWords, stateIn, stateWords}
 
 -- ---- answers
 
@@ -32,6 +33,12 @@ told-apart three apart (refused n at) (refused m bt) p q e f = ap₂ refused e (
 pub one-apart : (a b : ℕ) → one a ≡ one b → a ≡ b
 one-apart a b e = cc
 
+pub listed-apart : (a b : Listed) → listedWords a ≡ listedWords b → a ≡ b
+listed-apart a b e =
+    let o : a .obus ≡ b .obus = cc in
+    let p : a .padded ≡ b .padded = cc in
+    ap₂ (λ (n m : ℕ). record { obus = n; padded = m }) o p
+
 pub planned-apart : (a b : Planned) → plannedWords a ≡ plannedWords b → a ≡ b
 planned-apart a b e =
     let o : a .obus ≡ b .obus = cc in
@@ -43,11 +50,18 @@ written-apart a b e =
     let o : a .bytes ≡ b .bytes = cc in
     ap (λ (n : ℕ). record { bytes = n }) o
 
+-- a test is told by its number
+test-back : (t : Bool) → ltb 0 (cond t 1 0) ≡ t
+test-back true = refl
+test-back false = refl
+
 pub field-apart : (a b : SizeField) → fieldWords a ≡ fieldWords b → a ≡ b
 field-apart a b e =
     let o : a .value ≡ b .value = cc in
     let p : a .used ≡ b .used = cc in
-    ap₂ (λ (n m : ℕ). record { value = n; used = m }) o p
+    let q : _≡_ {A = ℕ} (cond (a .shortest) 1 0) (cond (b .shortest) 1 0) = cc in
+    let t : a .shortest ≡ b .shortest = sym (test-back (a .shortest)) ∙ ap (ltb 0) q ∙ test-back (b .shortest) in
+    rw (o, p, t)
 
 pub head-apart : (a b : TrainHead) → headWords a ≡ headWords b → a ≡ b
 head-apart a b e =
@@ -67,11 +81,7 @@ record-apart a b e =
 pub state-fresh : stateIn (0 ∷ 0 ∷ 0 ∷ []) ≡ stateOf fresh
 state-fresh = refl
 
-begun-back : (t : Bool) → ltb 0 (cond t 1 0) ≡ t
-begun-back true = refl
-begun-back false = refl
-
 -- a number of a packet has 16 bits
 pub state-back : (s : State) → s .last < 65536 → stateIn (stateWords s) ≡ s
 state-back s h =
-    rw (begun-back (s .begun), mod-eq-of-lt h)
+    rw (test-back (s .begun), mod-eq-of-lt h)

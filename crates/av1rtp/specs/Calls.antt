@@ -1,6 +1,6 @@
 -- What the words of each export are, over the very answers that the calls within promise.
 use mathlib.Core.Path.{_≡_}
-use Prim.Native.Nat.{ℕ, _%_}
+use Prim.Native.Nat.{ℕ, _+_, _%_}
 use mathlib.Core.Path.{_≡_}
 use mathlib.Core.List.{List, [], _∷_}
 use mathlib.Core.Bool.{cond}
@@ -8,7 +8,6 @@ use lib.ListN.{length, getD}
 use lib.Dec.{ltb}
 use Rattle.base.specs.Numbers.{packetNumbers}
 use Rattle.base.specs.Answers.{Answer, given, refused}
-use Rattle.leb128.specs.Field.{Field, sized, unreadable}
 use Rattle.leb128.specs.declared.SizeField.{SizeField}
 use Rattle.obu.specs.declared.Listed.{Listed}
 use Rattle.packetizer.specs.Call as planner
@@ -29,7 +28,7 @@ abbrev pub one : ℕ → List ℕ
 one n = n ∷ 0 ∷ 0 ∷ []
 
 abbrev pub listedWords : Listed → List ℕ
-listedWords l = l .obus ∷ 0 ∷ 0 ∷ []
+listedWords l = l .obus ∷ l .padded ∷ 0 ∷ []
 
 abbrev pub plannedWords : Planned → List ℕ
 plannedWords p = p .obus ∷ p .packets ∷ 0 ∷ []
@@ -52,12 +51,8 @@ pub record WriteCrosses (after : payloader.After) (r : ℕ) (words out : List �
 
 -- ---- a size field
 
-abbrev pub fieldAnswer : Field → Answer SizeField
-fieldAnswer (sized v n) = given (record { value = v; used = n })
-fieldAnswer (unreadable k) = refused k 0
-
 abbrev pub fieldWords : SizeField → List ℕ
-fieldWords f = f .value ∷ f .used ∷ 0 ∷ []
+fieldWords f = f .value ∷ f .used ∷ cond (f .shortest) 1 0 ∷ []
 
 -- ---- element k: the public call carries no place, and where there is no element its part is empty (E7, E8)
 
@@ -78,9 +73,9 @@ abbrev pub stateAfter : Answer Received → List ℕ → List ℕ
 stateAfter (given r) words = stateWords (r .state)
 stateAfter (refused n at) words = words
 
--- how many bytes are handed out; what was thrown away does not cross
+-- how many bytes are handed out, and the padded fields of both kinds; what was thrown away does not cross
 abbrev pub receivedWords : Received → List ℕ
-receivedWords r = one (r .bytes)
+receivedWords r = r .bytes ∷ (r .padded .lengths + r .padded .sizes) ∷ 0 ∷ []
 
 -- what the export leaves by what the call within leaves, the state's words having been `words`
 pub record Crosses (x : After (Answer Received)) (words : List ℕ) (r : ℕ) (answer state store output : List ℕ) : Type 0 where

@@ -15,7 +15,7 @@ ghost use mathlib.Core.Path.{_≡_};
 ghost use mathlib.Core.List.{[], _∷_};
 ghost use lib.ListN.{drop};
 ghost use Rattle.base.specs.Refusals.{numberOf};
-ghost use Rattle.leb128.specs.Field.{sizeField};
+ghost use Rattle.leb128.specs.Field.{sizeAnswer};
 ghost use Rattle.obu.specs.Unit.{listAnswer, listAfter};
 ghost use Rattle.obu.specs.Records.{obusIn};
 ghost use Rattle.packetizer.specs.Call.{toPlan, planUnit};
@@ -27,7 +27,7 @@ ghost use Rattle.receiver.specs.Call.{inputs, received};
 ghost use Rattle.base.specs.Lists.{front};
 ghost use Rattle.train.specs.Train.{headOf, countedWidth, frontOf, recordFields};
 ghost use Rattle.av1rtp.specs.Words.{numberIn, wordsIn};
-ghost use Rattle.av1rtp.specs.Calls.{one, listedWords, PlanCrosses, WriteCrosses, fieldAnswer, fieldWords, elementCount, stateIn, stateWords, Crosses, headWords, recordAnswer, recordWords};
+ghost use Rattle.av1rtp.specs.Calls.{one, listedWords, PlanCrosses, WriteCrosses, fieldWords, elementCount, stateIn, stateWords, Crosses, headWords, recordAnswer, recordWords};
 
 // What was asked for: success, and up to three numbers.
 fn give(answer: &mut [usize; 4], a: usize, b: usize, c: usize) -> u32
@@ -45,7 +45,7 @@ fn refuse(answer: &mut [usize; 4], refusal: Refusal, at: usize) -> u32
     base::number(refusal)
 }
 
-// The OBU list of a unit. Words: offset, OBUs.
+// The OBU list of a unit. Words: offset, OBUs, padded size fields.
 #[no_mangle]
 pub extern "C" fn av1rtp_list(unit: &[u8], obus: &mut [u32], answer: &mut [usize; 4]) -> u32
     ensures { λ r. ⌜ (r ≡ numberIn (listAnswer (now (unit .entry)) (now (obus .entry))))
@@ -53,7 +53,7 @@ pub extern "C" fn av1rtp_list(unit: &[u8], obus: &mut [u32], answer: &mut [usize
         × (now (obus .exit) ≡ listAfter (now (unit .entry)) (now (obus .entry))) ⌝ }
 {
     match obu::parse_obus(unit, obus) {
-        ObuList::Listed(listed) => give(answer, listed.obus, 0, 0),
+        ObuList::Listed(listed) => give(answer, listed.obus, listed.padded, 0),
         ObuList::Refused { refusal, at } => refuse(answer, refusal, at),
     }
 }
@@ -169,7 +169,7 @@ fn put_state(words: &mut [usize; 3], state: State)
     *words = [state.begun as usize, state.last as usize, state.open];
 }
 
-// One packet received. Words: 0, the bytes handed out.
+// One packet received. Words: 0, the bytes handed out, its padded fields.
 #[no_mangle]
 pub extern "C" fn av1rtp_receive(
     state: &mut [usize; 3],
@@ -187,7 +187,8 @@ pub extern "C" fn av1rtp_receive(
         Receipt::Received(received) => {
             let after = received.state;
             put_state(state, after);
-            give(answer, received.bytes, 0, 0)
+            let padded = received.padded;
+            give(answer, received.bytes, padded.lengths + padded.sizes, 0)
         }
         Receipt::Refused(refusal) => refuse(answer, refusal, 0),
     }
@@ -237,14 +238,19 @@ pub extern "C" fn av1rtp_train_record_head(
     train::record_head(stated, number, width, head);
 }
 
-// The size field at the front of some bytes. Words: 0, its value, the bytes that it takes.
+// The size field at the front of some bytes. Words: 0, its value, the bytes that it takes, 1 if they are its shortest form.
 #[no_mangle]
 pub extern "C" fn av1rtp_size_field(bytes: &[u8], answer: &mut [usize; 4]) -> u32
-    ensures { λ r. ⌜ (r ≡ numberIn (fieldAnswer (sizeField (now (bytes .entry)))))
-        × (now (answer .exit) ≡ wordsIn fieldWords (fieldAnswer (sizeField (now (bytes .entry))))) ⌝ }
+    ensures { λ r. ⌜ (r ≡ numberIn (sizeAnswer (now (bytes .entry))))
+        × (now (answer .exit) ≡ wordsIn fieldWords (sizeAnswer (now (bytes .entry)))) ⌝ }
 {
     match leb128::read_leb128(bytes) {
-        SizeRead::Read(field) => give(answer, field.value as usize, field.used, 0),
+        SizeRead::Read(field) => give(
+            answer,
+            field.value as usize,
+            field.used,
+            field.shortest as usize,
+        ),
         SizeRead::Refused(refusal) => refuse(answer, refusal, 0),
     }
 }

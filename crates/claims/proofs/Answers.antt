@@ -28,6 +28,9 @@ whole-obu = answers.whole-one
 pub obu-list : TellsApart obu.paperList
 obu-list = answers.list-one
 
+pub same-list : TellsApart obu.paperSame
+same-list = answers.same-one
+
 pub plan-answer : TellsApart packetizer.paper
 plan-answer = answers.plan-one
 

@@ -14,6 +14,9 @@ told-apart = λ A. laws.told-apart
 pub one-word : TellsApart border.one
 one-word = laws.one-apart
 
+pub listed-words : TellsApart border.listedWords
+listed-words = laws.listed-apart
+
 pub planned-words : TellsApart border.plannedWords
 planned-words = laws.planned-apart
 

@@ -3,6 +3,7 @@ use Rattle.settled.specs.Settled.{Settled}
 use Rattle.base.proofs.number as number
 use Rattle.base.proofs.smaller as smaller
 use Rattle.base.proofs.same_numbers as sameNumbers
+use Rattle.leb128.proofs.is_padded as isPadded
 use Rattle.leb128.proofs.leb128_size as leb128Size
 use Rattle.obu.proofs.obu_type as obuType
 use Rattle.obu.proofs.obu_has_extension as obuHasExtension
@@ -29,6 +30,9 @@ same-numbers = small.same-numbers
 
 pub leb128-size : Settled leb128Size.ended (λ M. leb128Size.clauses)
 leb128-size = small.leb128-size
+
+pub is-padded : Settled isPadded.ended (λ M. isPadded.clauses)
+is-padded = small.is-padded
 
 pub obu-type : Settled obuType.ended (λ M. obuType.clauses)
 obu-type = small.obu-type

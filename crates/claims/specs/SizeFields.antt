@@ -1,11 +1,13 @@
--- Size fields (F1 to F4, R5, R6).
+-- Size fields (F1 to F6, R5, R6).
 use mathlib.Core.Path.{_≡_}
 use Prim.Native.Nat.{ℕ, suc, _+_, _≤_, _<_}
 use mathlib.Core.List.{List, _++_}
 use mathlib.Core.Logic.{_⊎_}
+use mathlib.Core.Bool.{false, not}
 use lib.ListN.{length, take}
-use Rattle.leb128.specs.Field.{longestField, largestValue, sized, unreadable, fieldIn, sizeField, form, encode}
-use Rattle.leb128.specs.Laws.{Unending, cap}
+use lib.Dec.{eqb}
+use Rattle.leb128.specs.Field.{longestField, largestValue, sized, unreadable, fieldIn, sizeField, form, encode, isPadded}
+use Rattle.leb128.specs.Laws.{Bytes, Unending, cap}
 
 -- F2, L5: eight bytes decide
 abbrev pub FirstEight : Type 0
@@ -26,6 +28,16 @@ NoneShorter = (v n : ℕ) (l : List ℕ) → sized v n ≡ sizeField l → lengt
 -- F4: n + 1 bytes for values from 128 to the n on and below 128 to the n + 1
 abbrev pub SizeIs : Type 0
 SizeIs = (n v : ℕ) → v ≤ largestValue → ((n ≡ 0 → ⊥) → cap n ≤ v) → v < cap (suc n) → length (encode v) ≡ n + 1
+
+-- F6: a field is padded exactly if it has not as many bytes as the shortest form; and of bytes the shortest form alone is not padded
+abbrev pub PaddedIs : Type 0
+PaddedIs = (l : List ℕ) (v n : ℕ) → sized v n ≡ sizeField l → isPadded v n ≡ not (eqb n (length (encode v)))
+
+abbrev pub OnlyShortest : Type 0
+OnlyShortest = (l : List ℕ) (v n : ℕ) → sized v n ≡ sizeField l → Bytes l → isPadded v n ≡ false → take n l ≡ encode v
+
+abbrev pub ShortestNot : Type 0
+ShortestNot = (l : List ℕ) (v n : ℕ) → sized v n ≡ sizeField l → take n l ≡ encode v → isPadded v n ≡ false
 
 -- R5: fewer than eight bytes, all with the top bit set; and only then
 abbrev pub FiveWhen : Type 0

@@ -20,6 +20,7 @@ use Rattle.obu.specs.Unit.{unitLimit, Placed, ScanEnd, ended, refusedBy, scanOf
 use Rattle.obu.specs.Records.{obuNumbers}
 use Rattle.obu.specs.declared.Obu.{Obu}
 use Rattle.obu.specs.declared.Listed.{Listed}
+use Rattle.obu.specs.declared.compare.Kept.{Kept}
 use Rattle.obu.proofs.Records.{obu-lies}
 use Rattle.obu.proofs.Compares.{same-says}
 use Rattle.packetizer.specs.Plan.{planOf}
@@ -154,8 +155,8 @@ module _ (mtu : ℕ) (unit obus plan : List ℕ) where
       listed-allowed (length obus / obuNumbers) l t q)
 
   -- comparing the lists, and writing by what it answers
-  compared-list : (p : Planned) (ps : List PacketMetadata) (a : Answer Listed) → compared ps plan a ≡ given p → (l : Listed) × (a ≡ given l)
-  compared-list p ps (given l) e = (l, refl)
+  compared-list : (p : Planned) (ps : List PacketMetadata) (a : Answer Kept) → compared ps plan a ≡ given p → (k : Kept) × (a ≡ given k)
+  compared-list p ps (given k) e = (k, refl)
   compared-list p ps (refused n at) e = let z : _≡_ {A = ℕ} 0 1 = cc in absurd (omega arith)
 
   compared-allowed : (p : Planned) → samePlan mtu unit obus plan ≡ given p → Allowed mtu unit
@@ -166,8 +167,9 @@ module _ (mtu : ℕ) (unit obus plan : List ℕ) where
       let z : _≡_ {A = ℕ} 0 1 = cc in
       absurd (omega arith))
       (λ t.
-      let (l, q) = compared-list p (unitPlan mtu unit) (sameList unit obus) (rw t at e) in
-      listed-allowed (length unit) l t (sym (same-says unit obus (sym q) .0)))
+      let (k, q) = compared-list p (unitPlan mtu unit) (sameList unit obus) (rw t at e) in
+      let (l, listing, o, same) = same-says unit obus (sym q) in
+      listed-allowed (length unit) l t (sym listing))
 
   written-plan : (w : Written) (there : ℕ → Bool) (bytes : List ℕ) (space : ℕ) (a : Answer Planned) → call.written there bytes space a ≡ given w
       → (p : Planned) × (a ≡ given p)

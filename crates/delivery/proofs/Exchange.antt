@@ -16,7 +16,7 @@ use Rattle.base.proofs.Lists.{flatMap-append, all-left, all-right}
 use Rattle.handing.specs.Handing.{fragmentLimit}
 use Rattle.handing.proofs.Lists.{front-length}
 use Rattle.receiver.specs.Packet.{Packet, packetOf}
-use Rattle.receiver.specs.Joining.{Held, fresh, isAhead, isInStep, ahead, follows, joinable, lost, handed, keptOpen, holding}
+use Rattle.receiver.specs.Joining.{Held, fresh, isAhead, isInStep, ahead, follows, joinable, handed, keptOpen, holding}
 use Rattle.receiver.specs.Call.{Incoming, Taken, stateOf, answering, after, answered}
 use Rattle.receiver.specs.declared.State.{State}
 use Rattle.receiver.proofs.Laws.{Holding, holding-fresh, held-again}
@@ -31,7 +31,7 @@ use Rattle.delivery.proofs.Numbers as numbers
 use Rattle.delivery.proofs.Numbers.{not-ahead, is-ahead, is-in-step}
 use Rattle.delivery.proofs.Follow.{noPacket, joins, follow}
 use Rattle.delivery.proofs.Timely.{advances}
-use Rattle.delivery.proofs.OneCall.{carried-packet, wireBytes, wires-given, call-late, call-taken}
+use Rattle.delivery.proofs.OneCall.{leading, carried-packet, wireBytes, wires-given, call-late, call-taken}
 
 -- ---- the payload at a place of the run is read as the packet there
 
@@ -89,7 +89,7 @@ module _ (sent : Run) (run : List Packet) (size mtu : ℕ) (limit : size ≤ fra
           let b : List ℕ = flatMap wireBytes (handed o p) in
           let w = wires-given (handed o p) f in
           let q = places (a .packet) l in
-          let x : calls sent (stateOf h) store (a ∷ rest) ≡ by-outcome (stateOf h) store a rest (given (record { held = held; bytes = b; lost = lost h (came .label) p })) =
+          let x : calls sent (stateOf h) store (a ∷ rest) ≡ by-outcome (stateOf h) store a rest (given (leading h came p held b)) =
           ap (by-outcome (stateOf h) store a rest)
           (call-taken h came store (a .output) s p (q .read) o b e j w (omega arith) (omega arith) (omega (arith, output-enough (came .payload) o p b (q .read) (omega arith) w, q .short))) in
           let m : length (front (keptOpen o p) store) ≡ length store = front-length (keptOpen o p) store (omega arith) in

@@ -13,8 +13,8 @@ use Rattle.element.proofs.Laws.{payload-fits}
 use Rattle.handing.specs.Handing.{fragmentLimit, wires}
 use Rattle.handing.proofs.Wires.{wires-each}
 use Rattle.receiver.specs.Packet.{Packet, packetBy, packetOf}
-use Rattle.receiver.specs.Joining.{Held, ahead, joinable, lost, handed, keptOpen, holding, next, out}
-use Rattle.receiver.specs.Call.{Incoming, outcome}
+use Rattle.receiver.specs.Joining.{Held, ahead, joinable, handed, keptOpen, holding, next, out}
+use Rattle.receiver.specs.Call.{Incoming, Taken, leadsTo, outcome}
 use Rattle.receiver.proofs.Laws.{taken-all, taken-behind, Holding, inputsBy, outcome-holding}
 use Rattle.lawful.specs.Train.{NonEmpty}
 use Rattle.lawful.specs.Payload.{Carry}
@@ -51,6 +51,10 @@ wires-given os h = wires-each wireBytes os (all-map wire-given os h)
 
 -- ---- the call
 
+-- what a packet leads to, where this is held then
+abbrev pub leading : Held → Incoming → Packet → Held → List ℕ → Taken
+leading h p q held bytes = let t = leadsTo h p q bytes in record { held = held; bytes = bytes; padded = t .padded; lost = t .lost }
+
 module _ (h : Held) (p : Incoming) (store output : List ℕ) (s : Holding h store) (q : Packet) (read : packetOf (p .payload) ≡ given q) where
   pub call-late : ahead h (p .label) ≡ false → outcome (inputsBy h p store output) ≡ refused 14 0
   call-late e = outcome-holding h p store output s ∙ taken-behind (length store) (length output) h p q read e
@@ -58,11 +62,11 @@ module _ (h : Held) (p : Incoming) (store output : List ℕ) (s : Holding h stor
   -- the first element may join o
   pub call-taken : (o bytes : List ℕ) → ahead h (p .label) ≡ true → joinable h (p .label) ≡ o → wires (handed o q) ≡ given bytes
       → length (keptOpen o q) ≤ length store → length (keptOpen o q) ≤ fragmentLimit → length bytes ≤ length output
-      → outcome (inputsBy h p store output) ≡ given (record { held = holding (p .label) (keptOpen o q); bytes = bytes; lost = lost h (p .label) q })
+      → outcome (inputsBy h p store output) ≡ given (leading h p q (holding (p .label) (keptOpen o q)) bytes)
   unfolding next out
   call-taken o bytes a j w k l m =
       let n : next h (p .label) q ≡ holding (p .label) (keptOpen o q) = rw (a, j) in
       let f : (next h (p .label) q) .fragment ≡ keptOpen o q = ap (λ (x : Held). x .fragment) n in
       outcome-holding h p store output s
       ∙ taken-all (length store) (length output) h p q read a bytes (rw (a, j) w) (rw f k) (rw f l) m
-      ∙ ap (λ (x : Held). given (record { held = x; bytes = bytes; lost = lost h (p .label) q })) n
+      ∙ ap (λ (x : Held). given (leading h p q x bytes)) n

@@ -16,7 +16,7 @@ use Rattle.packing.specs.Pack.{nextNumber, numbered}
 use Rattle.handing.specs.Handing.{wires}
 use Rattle.receiver.specs.Packet as apart
 use Rattle.receiver.specs.Packet.{packetOf}
-use Rattle.receiver.specs.Joining.{Label, Held, ahead, out}
+use Rattle.receiver.specs.Joining.{Held, ahead, out}
 use Rattle.receiver.specs.Call.{Incoming, Taken, tooLong, fitted, leadsTo, wired, opened, taken, stateOf, outcome, answering, after, answered}
 use Rattle.receiver.proofs.Laws.{Holding, inputsBy, outcome-holding, holding-next}
 use Rattle.unpacking.specs.Unpack.{payloadBytes, fragmentStore, outputBytes, incoming, heldAfter, writtenFor, unpackedFrom}
@@ -66,23 +66,23 @@ module _ (space room room′ : ℕ) where
       go false true f = absurd f
       go false false f = rw (le-ltb room′ (length (t .bytes)) f)
 
-  wired-room : (h : Held) (l : Label) (p : apart.Packet) (w : Answer (List ℕ)) → Goes room′ (wired space room h l p w) → wired space room′ h l p w ≡ wired space room h l p w
-  wired-room h l p (given bytes) g = fitted-room (leadsTo h l p bytes) g
-  wired-room h l p (refused n at) g = refl
+  wired-room : (h : Held) (p : Incoming) (q : apart.Packet) (w : Answer (List ℕ)) → Goes room′ (wired space room h p q w) → wired space room′ h p q w ≡ wired space room h p q w
+  wired-room h p q (given bytes) g = fitted-room (leadsTo h p q bytes) g
+  wired-room h p q (refused n at) g = refl
 
-  opened-room : (h : Held) (l : Label) (x : Answer apart.Packet) → Goes room′ (opened space room h l x) → opened space room′ h l x ≡ opened space room h l x
-  opened-room h l (given p) g = wired-room h l p (wires (out h l p)) g
-  opened-room h l (refused k at) g = refl
+  opened-room : (h : Held) (p : Incoming) (x : Answer apart.Packet) → Goes room′ (opened space room h p x) → opened space room′ h p x ≡ opened space room h p x
+  opened-room h p (given q) g = wired-room h p q (wires (out h (p .label) q)) g
+  opened-room h p (refused k at) g = refl
 
   taken-room : (h : Held) (p : Incoming) → Goes room′ (taken space room h p) → taken space room′ h p ≡ taken space room h p
   unfolding taken
   taken-room h p g = go (eqb (length (p .payload)) 0 || ltb payloadLimit (length (p .payload))) (ahead h (p .label)) g
     where
-      go : (a b : Bool) → Goes room′ (cond a (refused 13 0) (cond b (opened space room h (p .label) (packetOf (p .payload))) (refused 14 0)))
-          → cond a (refused 13 0) (cond b (opened space room′ h (p .label) (packetOf (p .payload))) (refused 14 0))
-          ≡ cond a (refused 13 0) (cond b (opened space room h (p .label) (packetOf (p .payload))) (refused 14 0))
+      go : (a b : Bool) → Goes room′ (cond a (refused 13 0) (cond b (opened space room h p (packetOf (p .payload))) (refused 14 0)))
+          → cond a (refused 13 0) (cond b (opened space room′ h p (packetOf (p .payload))) (refused 14 0))
+          ≡ cond a (refused 13 0) (cond b (opened space room h p (packetOf (p .payload))) (refused 14 0))
       go true b f = absurd f
-      go false true f = opened-room h (p .label) (packetOf (p .payload)) f
+      go false true f = opened-room h p (packetOf (p .payload)) f
       go false false f = absurd f
 
   pub turns-room : (h : Held) (ps : List Numbered) → All (Goes room′) (turns space room h ps) → turns space room′ h ps ≡ turns space room h ps

@@ -1,4 +1,4 @@
--- The elements of a payload, and element k (E1 to E8, R13, R15 to R17).
+-- The elements of a payload, their padded length fields, and element k (E1 to E8, F6, R13, R15 to R17).
 use Prim.Native.Nat.{ℕ, zero, suc, _+_, _-_}
 use mathlib.Core.List.{List, [], _∷_}
 use mathlib.Core.Bool.{Bool, true, cond, not, _&&_}
@@ -6,7 +6,7 @@ use lib.ListN.{length, getD, take, drop}
 use lib.Dec.{ltb, eqb}
 use Rattle.base.specs.Answers.{Answer, given, refused}
 use Rattle.base.specs.Streams.{Next, item, halt, Stream, streamOf, whole}
-use Rattle.leb128.specs.Field.{Field, sized, unreadable, sizeField}
+use Rattle.leb128.specs.Field.{Field, sized, unreadable, sizeField, isPadded}
 use Rattle.element.specs.Header.{zBit, wOf, nBit}
 use Rattle.element.specs.declared.Part.{Part}
 
@@ -79,6 +79,25 @@ elementsOf (h ∷ l) = cond (eqb (zBit h) 1 && eqb (nBit h) 1) (refused 15 0) (c
 -- the same after R13
 unfoldable pub payloadElements : List ℕ → Answer (List Part)
 payloadElements payload = cond (ltb payloadLimit (length payload)) (refused 13 0) (elementsOf payload)
+
+-- ---- padded length fields (F6): the bytes of a length field stand between its element's cursor and its start
+
+-- of an element that begins at `at`: one, or none
+abbrev pub paddedAt : ℕ → Part → ℕ
+paddedAt at p = cond (isPadded (p .length) (p .start - at)) 1 0
+
+-- of elements the first of which begins at `at`
+abbrev pub paddedFrom : ℕ → List Part → ℕ
+paddedFrom at [] = 0
+paddedFrom at (p ∷ ps) = paddedAt at p + paddedFrom (p .next) ps
+
+abbrev pub paddedBy : Answer (List Part) → ℕ
+paddedBy (given ps) = paddedFrom 1 ps
+paddedBy (refused n at) = 0
+
+-- of a payload
+abbrev pub paddedLengths : List ℕ → ℕ
+paddedLengths payload = paddedBy (payloadElements payload)
 
 -- ---- what a walk from element to element goes by
 

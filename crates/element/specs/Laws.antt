@@ -1,13 +1,15 @@
 -- What the laws of elements are stated with.
 use mathlib.Core.Path.{_≡_}
-use Prim.Native.Nat.{ℕ, _+_, _-_, _≤_}
+use Prim.Native.Nat.{ℕ, _+_, _-_, _≤_, _<_}
 use mathlib.Core.List.{List, [], _∷_, map}
-use mathlib.Core.Bool.{cond}
-use lib.ListN.{drop}
+use mathlib.Core.Bool.{Bool, cond}
+use lib.ListN.{length, drop}
 use lib.Dec.{eqb}
 use Rattle.base.specs.Answers.{Answer, given}
-use Rattle.element.specs.Elements.{bytesOf, untilEnd, exactly, elementsOf}
+use Rattle.leb128.specs.Field.{sized, sizeField}
+use Rattle.element.specs.Elements.{payloadLimit, bytesOf, elementAt, untilEnd, exactly, elementsOf}
 use Rattle.element.specs.declared.Part.{Part}
+use Rattle.element.specs.declared.Walked.{Walked}
 
 -- an element behind a cursor: it has a byte, and ends at its next cursor, which is within the end
 pub record Lies (at end : ℕ) (p : Part) : Type 0 where
@@ -30,3 +32,22 @@ pub record ReadsAs (payload : List ℕ) (elements : List (List ℕ)) : Type 0 wh
   pub parts : List Part
   pub read : elementsOf payload ≡ given parts
   pub holds : map (bytesOf payload) parts ≡ elements
+
+-- an element stands at the cursor
+pub record Stands (field : Bool) (at : ℕ) (payload : List ℕ) : Type 0 where
+  pub inside : at ≤ length payload
+  pub part : Part
+  pub is : elementAt field at (drop at payload) ≡ given part
+
+-- an element behind its cursor; the bytes between them, if there are any, are its length field
+pub record Fielded (payload : List ℕ) (at : ℕ) (p : Part) : Type 0 where
+  pub behind : at ≤ p .start
+  pub within : p .start + p .length ≤ length payload
+  pub field : at < p .start → sized (p .length) (p .start - at) ≡ sizeField (drop at payload)
+
+-- it can be counted with these: the counts have room
+pub record Countable (payload : List ℕ) (all : Walked) (at : ℕ) (p : Part) : Type 0 where
+  pub fielded : Fielded payload at p
+  pub few : all .elements < at
+  pub fewer : all .padded ≤ all .elements
+  pub small : length payload ≤ payloadLimit

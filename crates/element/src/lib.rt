@@ -1,15 +1,19 @@
-// The elements of a payload (E1 to E8): the bits of its header, one element at a cursor, all of them, element k as a part.
+// The elements of a payload (E1 to E8, F6): the bits of its header, one element at a cursor, all of them, element k as a part.
+mod in_turn; // in_turn.rt: from element to element, by W
+
 use base::Refusal;
 use leb128::SizeRead;
 ghost use mathlib.Core.Path.{_≡_};
-ghost use Prim.Native.Nat.{_≤_, _<_};
-ghost use mathlib.Core.Bool.{cond, _&&_};
+ghost use Prim.Native.Nat.{_≤_};
+ghost use mathlib.Core.Bool.{_&&_};
 ghost use lib.ListN.{length, drop};
 ghost use lib.Dec.{eqb};
 ghost use denote.Ref.{ptr};
+ghost use Rattle.base.specs.Answers.{given};
 ghost use Rattle.element.specs.Header.{zBit, yBit, wOf, nBit};
-ghost use Rattle.element.specs.Elements.{elementAt, isDue, hasField, counting, payloadElements, elementOf, bytesOf, placeAt};
-ghost use Rattle.element.specs.Paper.{paperRead, paperWalk, withPart, walked};
+ghost use Rattle.element.specs.Elements.{payloadLimit, elementAt, hasField, payloadElements, elementOf, bytesOf, placeAt};
+ghost use Rattle.element.specs.Paper.{paperRead, paperWalk, walked};
+ghost use Rattle.element.specs.Laws.{Stands};
 
 // The most bytes of a payload.
 pub const PAYLOAD_LIMIT: usize = 1048576;
@@ -35,11 +39,21 @@ pub enum ElementRead {
 }
 
 // All elements: how many there are, the one asked for, and the last; where there is no such one, the empty part at the payload's start.
+// And how many of their length fields are padded.
 pub struct Walked {
     pub elements: usize,
     pub kept: Part,
     pub last: Part,
+    pub padded: usize,
 }
+
+// Nothing is walked.
+const UNWALKED: Walked = Walked {
+    elements: 0,
+    kept: NOWHERE,
+    last: NOWHERE,
+    padded: 0,
+};
 
 // What going through all elements finds.
 pub enum Walk {
@@ -83,16 +97,6 @@ fn new_with_continuation(header: u8) -> bool
         return header_n(header);
     }
     false
-}
-
-// After n elements, with so many bytes left: whether a further one is due.
-fn is_due(w: usize, n: usize, left: usize) -> bool
-    ensures { λ r. ⌜ r ≡ isDue w n left ⌝ }
-{
-    if w == 0 {
-        return left > 0;
-    }
-    n < w
 }
 
 // Whether element n has a length field: all but the last of W.
@@ -155,79 +159,53 @@ pub fn read_element(payload: &[u8], at: usize, field: bool) -> ElementRead
     }
 }
 
-// This part where told to, else the one kept so far: number by number, so that they stay in registers.
-fn kept_of(here: bool, part: Part, kept: Part) -> Part
-    ensures { λ r. ⌜ r ≡ cond here part kept ⌝ }
+// The same where it is known that there is one: nothing is tested again.
+// Helper: reading the element must give one.
+pub fn part_at(payload: &[u8], at: usize, field: bool) -> Part
+    requires { ⌜ Stands field at (now payload) ⌝ }
+    ensures { λ r. ⌜ given r ≡ elementAt field at (drop at (now (payload .entry))) ⌝ }
 {
-    if here {
-        Part {
-            start: part.start,
-            length: part.length,
-            next: part.next,
-        }
-    } else {
-        Part {
-            start: kept.start,
-            length: kept.length,
-            next: kept.next,
-        }
-    }
-}
-
-// One element more: counted, kept if it is element k, and the last so far; number by number, as above.
-fn with_part(all: Walked, k: usize, part: Part) -> Walked
-    requires { ⌜ all .elements < 18446744073709551615 ⌝ }
-    ensures { λ r. ⌜ r ≡ withPart k all part ⌝ }
-{
-    let kept = all.kept;
-    let elements = all.elements + 1;
-    Walked {
-        elements: elements,
-        kept: kept_of(all.elements == k, part, kept),
-        last: Part {
-            start: part.start,
-            length: part.length,
-            next: part.next,
-        },
-    }
-}
-
-// The elements after the header, by W: how many, element k, and the last.
-fn walk_by_w(payload: &[u8], w: usize, k: usize) -> Walk
-    requires { ⌜ 1 ≤ length (now payload) ⌝ }
-    ensures { λ r. ⌜ paperWalk r ≡ walked k (counting w (drop 1 (now (payload .entry)))) ⌝ }
-{
-    if is_due(w, 0, payload.len() - 1) {
-        let mut at: usize = 1;
-        let mut all = Walked {
-            elements: 0,
-            kept: NOWHERE,
-            last: NOWHERE,
-        };
-        while is_due(w, all.elements, payload.len() - at) {
-            match read_element(payload, at, has_field(w, all.elements)) {
-                ElementRead::Refused { refusal, at } => {
-                    return Walk::Refused {
-                        refusal: refusal,
-                        at: at,
-                    };
-                }
-                ElementRead::Found(part) => {
-                    all = with_part(all, k, part);
-                    at = part.next;
-                }
+    if field {
+        match leb128::read_leb128(&payload[at..]) {
+            SizeRead::Read(size) => {
+                let start = at + size.used;
+                let length = size.value as usize;
+                return Part {
+                    start: start,
+                    length: length,
+                    next: start + length,
+                };
+            }
+            // never
+            SizeRead::Refused(_) => {
+                return NOWHERE;
             }
         }
-        Walk::Whole(all)
-    } else {
-        Walk::Refused {
-            refusal: Refusal::ElementBad,
-            at: 1,
-        }
+    }
+    Part {
+        start: at,
+        length: payload.len() - at,
+        next: payload.len(),
     }
 }
 
-// All elements of a payload, in order: how many, element k, and the last.
+// All elements of a payload that is neither empty nor over its limit.
+// Helper: it must be neither.
+pub fn walk_within(payload: &[u8], k: usize) -> Walk
+    requires { ⌜ (1 ≤ length (now payload)) × (length (now payload) ≤ payloadLimit) ⌝ }
+    ensures { λ r. ⌜ paperWalk r ≡ walked k (payloadElements (now (payload .entry))) ⌝ }
+{
+    let header = payload[0];
+    if new_with_continuation(header) {
+        return Walk::Refused {
+            refusal: Refusal::NewWithContinuation,
+            at: 0,
+        };
+    }
+    in_turn::walk_by_w(payload, header_w(header), k)
+}
+
+// All elements of a payload, in order: how many, element k, the last, and how many length fields are padded.
 pub fn walk_elements(payload: &[u8], k: usize) -> Walk
     ensures { λ r. ⌜ paperWalk r ≡ walked k (payloadElements (now (payload .entry))) ⌝ }
 {
@@ -243,14 +221,7 @@ pub fn walk_elements(payload: &[u8], k: usize) -> Walk
             at: 0,
         };
     }
-    let header = payload[0];
-    if new_with_continuation(header) {
-        return Walk::Refused {
-            refusal: Refusal::NewWithContinuation,
-            at: 0,
-        };
-    }
-    walk_by_w(payload, header_w(header), k)
+    walk_within(payload, k)
 }
 
 // Element k as a part of the payload; the empty part at its start if the payload is refused or has no element k.

@@ -21,11 +21,11 @@ const LAST: u16 = 65535;
 
 const NUMBER: u16 = 0;
 
-// Z, Y, W 2: three bytes that end the open OBU, whose size field covers exactly these and A0, and a new fragment. Or W 0: an OBU
-// of one byte, and one with its size field inside, whose length is padded.
+// Z, Y, W 2: three bytes that end the open OBU, whose padded size field covers exactly these, and a new fragment. Or W 0: an OBU of one
+// byte, whose length is padded, and one with its padded size field inside.
 fn payload(second: bool) -> [u8; PAYLOAD] {
     if second {
-        [0x00, 0x01, 0x30, 0x83, 0x80, 0x00, 0x32, 0x01, 0xC1]
+        [0x00, 0x81, 0x00, 0x30, 0x04, 0x32, 0x81, 0x00, 0xC1]
     } else {
         [0xE0, 0x03, 0xA1, 0xA2, 0xA3, 0x30, 0xB1, 0xB2, 0xB3]
     }
@@ -36,7 +36,7 @@ fn store(second: bool) -> [u8; STORE] {
     if second {
         [0x28, 0xD1, 0xD2, 0xD3, 0xEE, 0xEE]
     } else {
-        [0x36, 0x08, 0x04, 0xA0, 0xEE, 0xEE]
+        [0x36, 0x08, 0x83, 0x00, 0xEE, 0xEE]
     }
 }
 
@@ -52,6 +52,8 @@ fn print_receipt(receipt: Receipt, out: &[u8]) {
         Receipt::Received(got) => {
             show::bracketed(show::first(out, got.bytes));
             print_state(got.state);
+            show::spaced(got.padded.lengths);
+            show::spaced(got.padded.sizes);
             show::spaced(got.fragment_lost as usize);
             show::spaced(got.element_lost as usize);
         }

@@ -1,6 +1,7 @@
 // A case: packets given to the receiver, and its answer, its bytes, its state and what it threw away compared with what is expected.
 use base::Refusal;
 use libc::STDOUT_FILENO;
+use receiver::Padded;
 use receiver::Receipt;
 use receiver::Received;
 use receiver::State;
@@ -56,6 +57,18 @@ fn print_taken(got: Received, out: &[u8]) {
     }
     if got.element_lost {
         print(b" element lost");
+    }
+}
+
+// How many of its length fields, and how many size fields of the OBUs that it finishes, are padded.
+fn print_padded(padded: Padded) {
+    if padded.lengths > 0 {
+        print(b" padded lengths ");
+        print_number(padded.lengths);
+    }
+    if padded.sizes > 0 {
+        print(b" padded sizes ");
+        print_number(padded.sizes);
     }
 }
 
@@ -117,6 +130,7 @@ pub fn loses(
                 if same_losses(got, fragment, element) {
                     if check::same(first(&out, got.bytes), bytes) {
                         print(b" ok");
+                        print_padded(got.padded);
                         return next;
                     }
                 }
@@ -157,5 +171,21 @@ pub fn broken(n: usize, payload: &[u8], refused: u32) {
     let mut store = [0u8; 16];
     let state = begin(n);
     refuses(state, FIRST, payload, refused, &mut store);
+    end();
+}
+
+// Two packets, the first of which leaves so many bytes open.
+pub fn two(
+    n: usize,
+    first: &[u8],
+    first_bytes: &[u8],
+    open: usize,
+    second: &[u8],
+    second_bytes: &[u8],
+) {
+    let mut store = [0u8; 16];
+    let state = begin(n);
+    let next = takes(state, FIRST, first, first_bytes, open, &mut store);
+    takes(next, 0, second, second_bytes, 0, &mut store);
     end();
 }

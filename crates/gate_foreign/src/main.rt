@@ -1,9 +1,11 @@
 // Payloads as other senders may make them, given to the receiver: what comes out is compared with bytes worked out by hand.
 //
-// Each case has a line: for each of its packets `ok`, or what came instead. A comment takes the payload apart: the aggregation
+// Each case has a line: for each of its packets `ok`, or what came instead; then, where there are any, how many padded length fields
+// and padded size fields it has, which are worked out by hand in the file `stdout`. A comment takes the payload apart: the aggregation
 // header, then element by element the length field, where there is one, and the OBU's bytes; `Out` is what the rules make of them,
 // and `Lost` what is thrown away, where anything is.
 mod case;
+mod padded;
 
 // Elements that all have a length field (E2).
 fn all_with_length() {
@@ -131,28 +133,12 @@ fn reserved() {
     case::broken(23, b"\x98\x30\xA1", 15);
 }
 
-// Two packets, the first of which leaves so many bytes open.
-fn two(
-    n: usize,
-    first: &[u8],
-    first_bytes: &[u8],
-    open: usize,
-    second: &[u8],
-    second_bytes: &[u8],
-) {
-    let mut store = [0u8; 16];
-    let state = case::begin(n);
-    let next = case::takes(state, case::FIRST, first, first_bytes, open, &mut store);
-    case::takes(next, 0, second, second_bytes, 0, &mut store);
-    case::end();
-}
-
 // OBUs over two packets, one with padded length fields and one that is dropped (V5 to V8, V11).
 fn fragments() {
     // 60: Y, W 2. 82 00 is 2: 28 B1. To the end: 30 A1, open.
     // 80: Z, W 0. 83 80 00 is 3: A2 A3 A4, which ends it. 02: 20 C1.
     // Out: 2A 01 B1; then 32 04 A1 A2 A3 A4, 22 01 C1.
-    two(
+    case::two(
         24,
         b"\x60\x82\x00\x28\xB1\x30\xA1",
         b"\x2A\x01\xB1",
@@ -163,7 +149,7 @@ fn fragments() {
     // 50: Y, W 1. To the end: 78 00, padding.
     // A0: Z, W 2. 01: 80, which ends it. To the end: 30 A1.
     // Out: nothing; then 32 01 A1.
-    two(
+    case::two(
         25,
         b"\x50\x78\x00",
         b"",
@@ -178,7 +164,7 @@ fn cut_fronts() {
     // 50: Y, W 1. To the end: 34, a header byte whose extension byte is to come.
     // 90: Z, W 1. To the end: 08 A1 A2, the extension byte first.
     // Out: nothing; then 36 08 02 A1 A2.
-    two(
+    case::two(
         26,
         b"\x50\x34",
         b"",
@@ -189,7 +175,7 @@ fn cut_fronts() {
     // 50: Y, W 1. To the end: 32 82, a header byte and the first byte of a size field.
     // 90: Z, W 1. To the end: 00 A1 A2: 82 00 is 2, and two bytes follow.
     // Out: nothing; then 32 02 A1 A2.
-    two(
+    case::two(
         27,
         b"\x50\x32\x82",
         b"",
@@ -341,4 +327,5 @@ fn main() {
     lost_last();
     again();
     nothing_joined();
+    padded::all();
 }

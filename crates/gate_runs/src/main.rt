@@ -1,4 +1,4 @@
-// Runs the loops of the programs on files (G2 to G11, G14, G15): the very functions that the programs call. A case is three arguments:
+// Runs the loops of the programs on files (G2 to G11, G14, G15, G17): the very functions that the programs call. A case is three arguments:
 // the program, how it is run, and the file that it reads. A line names the case; then come, as the program makes them, the bytes that it
 // writes and the lines that it says. `out`: both stand in one stream. `nowhere`: every write of bytes fails. `prefixes`: it is run on
 // every beginning of the file, the empty one first; a line with how many bytes that is stands before, and an empty line after each run.
@@ -22,17 +22,19 @@ fn write_word(word: &[u8], after: u8) {
     io::write_all(STDOUT_FILENO, &[after]);
 }
 
-// The program of a case, by its first two letters.
+// The program of a case, by its third letter.
 fn run_on(program: &[u8; WORD], from: i32, to: i32) {
     let streams = Streams {
         from: from,
         to: to,
         errors: STDOUT_FILENO,
     };
-    if program[0] == b'u' {
+    if program[2] == b'p' {
         running::unpack::run(streams);
-    } else if program[1] == b'a' {
+    } else if program[2] == b'c' {
         running::pack::run(streams);
+    } else if program[2] == b'd' {
+        running::padded::run(streams);
     } else {
         running::planlist::run(streams);
     }

@@ -10,12 +10,12 @@ use borrow.Author.Tests.{eqb-true, eqb-false}
 use Rattle.base.specs.Answers.{Answer, given, refused}
 use Rattle.base.specs.Lists.{replaced}
 use Rattle.base.proofs.Tests.{by-cond, cond-same}
-use Rattle.leb128.specs.Field.{encode, largestValue}
+use Rattle.leb128.specs.Field.{encode, isPadded, largestValue}
 use Rattle.leb128.proofs.Theorems.{size-most}
 use Rattle.obu.specs.Header.{typeOf, extensionBit, headerSize, marked, drops}
 use Rattle.obu.specs.Front.{Front, startOf, spanOf, Seen, found, stopped, frontOf}
-use Rattle.obu.specs.Wire.{extensionBytes, exactly, wholeOf, framed, wire}
-use Rattle.handing.specs.Inside.{handedOf, counted, putAt}
+use Rattle.obu.specs.Wire.{extensionBytes, exactly, wholeOf, framed, wire, paddedSize}
+use Rattle.handing.specs.Inside.{handedOf, countedOne, putAt}
 use Rattle.handing.specs.declared.Handed.{Handed}
 use Rattle.handing.proofs.Lists.{replaced-none, replaced-more}
 
@@ -87,21 +87,26 @@ module _ (all : List ℕ) where
   unfolding wire
   wire-broken n at e = rw (← e)
 
--- the promise of one finished OBU
-abbrev pub Finished : Answer (List ℕ) → List ℕ → ℕ → Bool → Answer Handed → List ℕ → Type 0
-Finished w out at write answer after = (answer ≡ counted w) × (after ≡ cond write (putAt out at w) out)
+  -- its size field, as it was found
+  pub size-padded : (f : Front) → given f ≡ wholeOf all → {n : ℕ} → n ≡ cond (isPadded (f .payload) (f .field)) 1 0 → n ≡ cond (paddedSize all) 1 0
+  unfolding paddedSize
+  size-padded f e p = rw (← e) p
 
-module _ (w : Answer (List ℕ)) (out : List ℕ) (at : ℕ) (write : Bool) where
-  pub finished-none : w ≡ given [] → Finished w out at write (given (handedOf [])) out
-  finished-none e = rw e (refl, same write)
+-- the promise of one finished OBU
+abbrev pub Finished : List ℕ → List ℕ → ℕ → Bool → Answer Handed → List ℕ → Type 0
+Finished o out at write answer after = (answer ≡ countedOne o) × (after ≡ cond write (putAt out at (wire o)) out)
+
+module _ (o out : List ℕ) (at : ℕ) (write : Bool) where
+  pub finished-none : {n : ℕ} → wire o ≡ given [] → n ≡ cond (paddedSize o) 1 0 → Finished o out at write (given (handedOf n [])) out
+  finished-none e p = rw e (ap (λ (m : ℕ). given (handedOf m [])) p, same write)
     where
       same : (t : Bool) → out ≡ cond t (replaced out at []) out
       same true = sym (replaced-none out at)
       same false = refl
 
-  pub finished-bad : {n a : ℕ} → w ≡ refused n a → Finished w out at write (refused n a) out
+  pub finished-bad : {n a : ℕ} → wire o ≡ refused n a → Finished o out at write (refused n a) out
   finished-bad e = rw e (refl, sym (cond-same write out))
 
-  pub finished-some : {bytes after : List ℕ} {h : Handed} → w ≡ given bytes → h ≡ handedOf bytes → after ≡ cond write (replaced out at bytes) out
-      → Finished w out at write (given h) after
+  pub finished-some : {bytes after : List ℕ} {h : Handed} → wire o ≡ given bytes → h ≡ handedOf (cond (paddedSize o) 1 0) bytes
+      → after ≡ cond write (replaced out at bytes) out → Finished o out at write (given h) after
   finished-some e l p = rw e (ap given l, p)

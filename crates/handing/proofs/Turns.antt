@@ -14,14 +14,14 @@ use Rattle.leb128.specs.Field.{encode}
 use Rattle.leb128.proofs.Theorems.{size-most}
 use Rattle.obu.specs.Header.{typeOf, drops}
 use Rattle.obu.specs.Front.{Front, startOf, spanOf}
-use Rattle.obu.specs.Wire.{wholeOf, framed, wire}
+use Rattle.obu.specs.Wire.{wholeOf, framed, wire, paddedSize}
 use Rattle.element.specs.Elements.{bytesOf, nowhere, payloadElements}
 use Rattle.element.specs.Laws.{Lies}
 use Rattle.element.specs.declared.Part.{Part}
-use Rattle.handing.specs.Handing.{fragmentLimit, before, wires}
-use Rattle.handing.specs.Inside.{across, handedOf, both, counted, RoomAt, putAt, putFirst, partsOf, cursorOf, led, between, Finishing}
+use Rattle.handing.specs.Handing.{fragmentLimit, before, wires, paddedSizes}
+use Rattle.handing.specs.Inside.{across, handedOf, both, counted, countedAll, RoomAt, putAt, putFirst, partsOf, cursorOf, led, between, Finishing}
 use Rattle.handing.specs.declared.Handed.{Handed}
-use Rattle.handing.proofs.Wires.{before-assoc, before-none}
+use Rattle.handing.proofs.Wires.{before-assoc, before-none, sizes-none, sizes-next, sizes-one}
 use Rattle.handing.proofs.Cursors.{cursor-next, cursor-some, payload-small, part-at}
 use Rattle.handing.proofs.Across.{across-length}
 use Rattle.handing.proofs.Framing.{out-length, whole-spans, wire-dropped, wire-kept, wire-broken}
@@ -53,17 +53,14 @@ wire-grows all bytes small e = go (wholeOf all) refl
 
 -- ---- answers
 
-both-handed : (a b : List ℕ) → both (handedOf a) (handedOf b) ≡ handedOf (a ++ b)
-both-handed a b = rw length-append
-
 -- what was counted
-pub counted-given : (w : Answer (List ℕ)) {h : Handed} → given h ≡ counted w → (bytes : List ℕ) × (w ≡ given bytes) × (h ≡ handedOf bytes)
-counted-given (given bytes) {h} e = let f : h ≡ handedOf bytes = cc in (bytes, refl, f)
+pub counted-given : (w : Answer (List ℕ)) {m : ℕ} {h : Handed} → given h ≡ counted m w → (bytes : List ℕ) × (w ≡ given bytes) × (h ≡ handedOf m bytes)
+counted-given (given bytes) {m} {h} e = let f : h ≡ handedOf m bytes = cc in (bytes, refl, f)
 counted-given (refused k at) e = let z : _≡_ {A = ℕ} 0 1 = cc in absurd (omega arith)
 
-pub counted-refused : (w : Answer (List ℕ)) {n at : ℕ} → refused n at ≡ counted w → w ≡ refused n at
-counted-refused (given bytes) e = let z : _≡_ {A = ℕ} 0 1 = cc in absurd (omega arith)
-counted-refused (refused k a) {n} {at} e =
+pub counted-refused : (m : ℕ) (w : Answer (List ℕ)) {n at : ℕ} → refused n at ≡ counted m w → w ≡ refused n at
+counted-refused m (given bytes) e = let z : _≡_ {A = ℕ} 0 1 = cc in absurd (omega arith)
+counted-refused m (refused k a) {n} {at} e =
     let h : k ≡ n = cc in
     let j : a ≡ at = cc in
     ap₂ refused h j
@@ -106,12 +103,14 @@ pub record Handing (payload store : List ℕ) (from to joined : ℕ) (write : Bo
   pub small : kept ≤ fragmentLimit
   pub bound : sum .bytes + kept ≤ fragmentLimit + 4 * at
   pub same : length out ≡ length out₀
-  pub count : sum ≡ handedOf done
+  pub bytes-done : sum .bytes ≡ length done
+  pub sizes-done : sum .padded + paddedSizes (between store kept payload i to) ≡ paddedSizes (between store joined payload from to)
+  pub few : sum .padded ≤ at
   pub wrote : out ≡ cond write (front done out₀) out₀
   pub all : wires (between store joined payload from to) ≡ before (given done) (wires (between store kept payload i to))
 
 pub handing-first : {payload store : List ℕ} {cursor from to joined : ℕ} → Finishing payload cursor from to store joined → (write : Bool) (out : List ℕ)
-    → Handing payload store from to joined write out cursor from joined (handedOf []) out
+    → Handing payload store from to joined write out cursor from joined (handedOf 0 []) out
 handing-first {payload} {store} {cursor} {from} {to} {joined} f write out =
     record {
       done = [];
@@ -121,7 +120,9 @@ handing-first {payload} {store} {cursor} {from} {to} {joined} f write out =
       small = f .small;
       bound = omega arith;
       same = refl;
-      count = refl;
+      bytes-done = refl;
+      sizes-done = omega arith;
+      few = omega arith;
       wrote = same write;
       all = sym (before-none (wires (between store joined payload from to)));
     }
@@ -132,13 +133,10 @@ handing-first {payload} {store} {cursor} {from} {to} {joined} f write out =
 
 module _ {payload store : List ℕ} {from to joined : ℕ} {write : Bool} {out₀ : List ℕ} {at i kept : ℕ} {sum : Handed} {out : List ℕ}
     (s : Handing payload store from to joined write out₀ at i kept sum out) (whole : payloadElements payload ≡ given (partsOf payload)) where
-  bytes-done : sum .bytes ≡ length (s .done)
-  bytes-done = ap (λ (h : Handed). h .bytes) (s .count)
-
   -- the answer, and what stands in the output
   abbrev Ends : Answer Handed → Type 0
   Ends answer =
-      (answer ≡ counted (wires (between store joined payload from to)))
+      (answer ≡ countedAll (between store joined payload from to))
       × (out ≡ cond write (putFirst out₀ (wires (between store joined payload from to))) out₀)
 
   pub handing-end : to ≤ i → Ends (given sum)
@@ -146,7 +144,10 @@ module _ {payload store : List ℕ} {from to joined : ℕ} {write : Bool} {out�
   handing-end h =
       let e : wires (between store joined payload from to) ≡ given (s .done) =
       s .all ∙ ap (λ (os : List (List ℕ)). before (given (s .done)) (wires os)) (between-end store payload kept i to h) ∙ ap given (append-nil (s .done)) in
-      (ap given (s .count) ∙ sym (ap counted e), s .wrote ∙ ap (λ (w : Answer (List ℕ)). cond write (putFirst out₀ w) out₀) (sym e))
+      let p : sum .padded ≡ paddedSizes (between store joined payload from to) =
+      omega (arith, s .sizes-done, ap paddedSizes (between-end store payload kept i to h), sizes-none) in
+      let c : sum ≡ handedOf (paddedSizes (between store joined payload from to)) (s .done) = ap₂ (λ (b m : ℕ). record { bytes = b; padded = m }) (s .bytes-done) p in
+      (ap given c ∙ sym (ap (counted (paddedSizes (between store joined payload from to))) e), s .wrote ∙ ap (λ (w : Answer (List ℕ)). cond write (putFirst out₀ w) out₀) (sym e))
 
   module _ {p : Part} (here : p ≡ getD (partsOf payload) i nowhere) (more : i < to) (some : i < length (partsOf payload)) where
     pub handing-part : Lies at (length payload) p
@@ -168,6 +169,13 @@ module _ {payload store : List ℕ} {from to joined : ℕ} {write : Bool} {out�
         ∙ ap (λ (os : List (List ℕ)). before (given (s .done)) (wires os)) (between-next store payload kept i to more some)
         ∙ ap (λ (q : Part). before (given (s .done)) (before (wire (across store kept payload (q .start) (q .length))) (wires (between store 0 payload (i + 1) to)))) (sym here)
 
+    -- the padded size fields that are left
+    sizes-left : paddedSizes (between store kept payload i to) ≡ cond (paddedSize obu) 1 0 + paddedSizes (between store 0 payload (i + 1) to)
+    sizes-left =
+        ap paddedSizes (between-next store payload kept i to more some)
+        ∙ ap (λ (q : Part). paddedSizes (across store kept payload (q .start) (q .length) ∷ between store 0 payload (i + 1) to)) (sym here)
+        ∙ sizes-next obu (between store 0 payload (i + 1) to)
+
     pub handing-most : (b : List ℕ) → wire obu ≡ given b → length b ≤ kept + p .length + 3
     handing-most b e =
         let l = handing-part in
@@ -178,36 +186,39 @@ module _ {payload store : List ℕ} {from to joined : ℕ} {write : Bool} {out�
     handing-room room t =
         let r : RoomAt (length out₀) (length (s .done)) (wire obu) =
         room-next (length out₀) (s .done) (wire obu) (wires (between store 0 payload (i + 1) to)) (subst (RoomAt (length out₀) 0) all-next (room t)) in
-        rw (s .same, bytes-done) r
+        rw (s .same, s .bytes-done) r
 
     pub handing-broken : (n a : ℕ) → (write ≡ true → RoomAt (length out₀) 0 (wires (between store joined payload from to))) → wire obu ≡ refused n a
         → (new : List ℕ) → new ≡ cond write (putAt out (sum .bytes) (wire obu)) out
-        → (refused n a ≡ counted (wires (between store joined payload from to)))
+        → (refused n a ≡ countedAll (between store joined payload from to))
         × (new ≡ cond write (putFirst out₀ (wires (between store joined payload from to))) out₀)
     handing-broken n a room e new f =
         let w : wires (between store joined payload from to) ≡ refused n a =
         all-next ∙ ap (λ (x : Answer (List ℕ)). before (given (s .done)) (before x (wires (between store 0 payload (i + 1) to)))) e in
-        (sym (ap counted w), f ∙ rw (e, w) (unwritten write (λ t. subst (RoomAt (length out₀) 0) w (room t)) (s .wrote)))
+        (sym (ap (counted (paddedSizes (between store joined payload from to))) w), f ∙ rw (e, w) (unwritten write (λ t. subst (RoomAt (length out₀) 0) w (room t)) (s .wrote)))
       where
         unwritten : (t : Bool) → (t ≡ true → ⊥) → out ≡ cond t (front (s .done) out₀) out₀ → cond t out out ≡ cond t out₀ out₀
         unwritten true never e = absurd (never refl)
         unwritten false never e = e
 
-    pub handing-next : {new b : List ℕ} {one next : Handed} → wire obu ≡ given b → one ≡ handedOf b → next ≡ both sum one → length new ≡ length out
+    pub handing-next : {new b : List ℕ} {one next : Handed} → wire obu ≡ given b → one ≡ handedOf (cond (paddedSize obu) 1 0) b → next ≡ both sum one → length new ≡ length out
         → new ≡ cond write (putAt out (sum .bytes) (wire obu)) out
         → Handing payload store from to joined write out₀ (p .next) (i + 1) 0 next new
     handing-next {new} {b} {one} {next} e l m k f =
-        let c : next ≡ handedOf (s .done ++ b) = m ∙ ap₂ both (s .count) l ∙ both-handed (s .done) b in
-        let n : next .bytes ≡ length (s .done ++ b) = ap (λ (h : Handed). h .bytes) c in
+        let c : next ≡ both sum (handedOf (cond (paddedSize obu) 1 0) b) = m ∙ ap (both sum) l in
+        let n : next .bytes ≡ length (s .done ++ b) = omega (arith, ap (λ (h : Handed). h .bytes) c, s .bytes-done, length-append (s .done) b) in
+        let q : next .padded ≡ sum .padded + cond (paddedSize obu) 1 0 = ap (λ (h : Handed). h .padded) c in
         record {
           done = s .done ++ b;
           cursor = ap (λ (q : Part). q .next) here ∙ sym (cursor-next (partsOf payload) i);
           within = omega arith;
           stored = omega arith;
           small = omega arith;
-          bound = let h = handing-part in omega (arith, n, length-append (s .done) b, bytes-done, handing-most b e);
+          bound = let h = handing-part in omega (arith, n, length-append (s .done) b, s .bytes-done, handing-most b e);
           same = k ∙ s .same;
-          count = c;
+          bytes-done = n;
+          sizes-done = omega (arith, q, sizes-left, s .sizes-done);
+          few = let h = handing-part in omega (arith, q, s .few, sizes-one obu);
           wrote = f ∙ rw e (written write (s .wrote));
           all =
               all-next
@@ -216,5 +227,5 @@ module _ {payload store : List ℕ} {from to joined : ℕ} {write : Bool} {out�
         }
       where
         written : (t : Bool) → out ≡ cond t (front (s .done) out₀) out₀ → cond t (replaced out (sum .bytes) b) out ≡ cond t (front (s .done ++ b) out₀) out₀
-        written true e = ap₂ (λ (x : List ℕ) (m : ℕ). replaced x m b) e bytes-done ∙ front-more (s .done) b out₀
+        written true e = ap₂ (λ (x : List ℕ) (m : ℕ). replaced x m b) e (s .bytes-done) ∙ front-more (s .done) b out₀
         written false e = e

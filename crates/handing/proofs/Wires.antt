@@ -1,11 +1,16 @@
--- What goes out for OBUs one after the other. Assumes nothing.
+-- What goes out for OBUs one after the other, and their padded size fields. Assumes nothing.
 use mathlib.Core.Path.{_≡_, refl, sym, ap, _∙_}
-use Prim.Native.Nat.{ℕ}
+use Prim.Native.Nat.{ℕ, _+_, _≤_}
+use native.Mathlib.Omega.{arith}
 use mathlib.Core.List.{List, [], _∷_, _++_, append-assoc, flatMap}
+use mathlib.Core.Bool.{cond}
+use lib.ListN.{length}
 use Rattle.base.specs.Answers.{Answer, given, refused}
 use Rattle.base.specs.Lists.{All}
-use Rattle.obu.specs.Wire.{wire}
-use Rattle.handing.specs.Handing.{before, wires}
+use Rattle.base.proofs.Lists.{keep-yes, keep-no, keep-none}
+use Rattle.base.proofs.Tests.{split-on}
+use Rattle.obu.specs.Wire.{wire, paddedSize}
+use Rattle.handing.specs.Handing.{before, wires, paddedSizes}
 
 pub before-assoc : (x y z : Answer (List ℕ)) → before (before x y) z ≡ before x (before y z)
 before-assoc (refused n at) y z = refl
@@ -26,3 +31,20 @@ pub wires-each : (give : List ℕ → List ℕ) (os : List (List ℕ)) → All (
 unfolding wires flatMap
 wires-each give [] h = refl
 wires-each give (o ∷ os) h = rw (h .0, wires-each give os (h .1))
+
+-- ---- padded size fields
+
+pub sizes-none : paddedSizes [] ≡ 0
+sizes-none = ap length (keep-none paddedSize)
+
+pub sizes-next : (o : List ℕ) (os : List (List ℕ)) → paddedSizes (o ∷ os) ≡ cond (paddedSize o) 1 0 + paddedSizes os
+sizes-next o os = split-on (paddedSize o)
+    (λ t. ap length (keep-yes paddedSize o os t) ∙ rw t (omega arith))
+    (λ t. ap length (keep-no paddedSize o os t) ∙ rw t (omega arith))
+
+pub sizes-one : (o : List ℕ) → cond (paddedSize o) 1 0 ≤ 1
+sizes-one o = split-on (paddedSize o) (λ t. rw t (omega arith)) (λ t. rw t (omega arith))
+
+pub sizes-few : (os : List (List ℕ)) → paddedSizes os ≤ length os
+sizes-few [] = omega (arith, sizes-none)
+sizes-few (o ∷ os) = omega (arith, sizes-next o os, sizes-one o, sizes-few os)

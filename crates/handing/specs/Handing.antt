@@ -1,8 +1,10 @@
--- What goes out for finished OBUs (V9, V12, R18).
+-- What goes out for finished OBUs, and their padded size fields (V9, V12, F6, R18).
 use Prim.Native.Nat.{ℕ}
 use mathlib.Core.List.{List, [], _∷_, _++_}
+use lib.ListN.{length}
 use Rattle.base.specs.Answers.{Answer, given, refused}
-use Rattle.obu.specs.Wire.{wire}
+use Rattle.base.specs.Lists.{keep}
+use Rattle.obu.specs.Wire.{wire, paddedSize}
 
 -- L4
 abbrev pub fragmentLimit : ℕ
@@ -17,3 +19,7 @@ before (refused n at) rest = refused n at
 unfoldable pub wires : List (List ℕ) → Answer (List ℕ)
 wires [] = given []
 wires (o ∷ os) = before (wire o) (wires os)
+
+-- how many of them have a padded size field
+abbrev pub paddedSizes : List (List ℕ) → ℕ
+paddedSizes os = length (keep paddedSize os)

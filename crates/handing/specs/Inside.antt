@@ -9,7 +9,8 @@ use Rattle.base.specs.Answers.{Answer, given, refused}
 use Rattle.base.specs.Lists.{replaced, front}
 use Rattle.element.specs.Elements.{nowhere, bytesOf, payloadElements}
 use Rattle.element.specs.declared.Part.{Part}
-use Rattle.handing.specs.Handing.{fragmentLimit}
+use Rattle.obu.specs.Wire.{wire, paddedSize}
+use Rattle.handing.specs.Handing.{fragmentLimit, wires, paddedSizes}
 use Rattle.handing.specs.declared.Fragment.{Fragment}
 use Rattle.handing.specs.declared.Handed.{Handed}
 
@@ -26,16 +27,23 @@ pub record There (store payload : List ℕ) (f : Fragment) : Type 0 where
   pub some : 1 ≤ f .size
   pub small : f .kept + f .size < 4294967296
 
--- how many bytes go out; and for two together
-abbrev pub handedOf : List ℕ → Handed
-handedOf bytes = record { bytes = length bytes }
+-- how many bytes go out, with so many padded size fields; and for two together
+abbrev pub handedOf : ℕ → List ℕ → Handed
+handedOf padded bytes = record { bytes = length bytes; padded = padded }
 
 abbrev pub both : Handed → Handed → Handed
-both a b = record { bytes = a .bytes + b .bytes }
+both a b = record { bytes = a .bytes + b .bytes; padded = a .padded + b .padded }
 
-abbrev pub counted : Answer (List ℕ) → Answer Handed
-counted (given bytes) = given (handedOf bytes)
-counted (refused n at) = refused n at
+abbrev pub counted : ℕ → Answer (List ℕ) → Answer Handed
+counted padded (given bytes) = given (handedOf padded bytes)
+counted padded (refused n at) = refused n at
+
+-- for one OBU, and for these
+abbrev pub countedOne : List ℕ → Answer Handed
+countedOne o = counted (cond (paddedSize o) 1 0) (wire o)
+
+abbrev pub countedAll : List (List ℕ) → Answer Handed
+countedAll os = counted (paddedSizes os) (wires os)
 
 -- they are given, and from `at` on there is room for them
 abbrev pub RoomAt : ℕ → ℕ → Answer (List ℕ) → Type 0

@@ -1,6 +1,5 @@
-// OBUs that lie across store and payload (V8 to V12, R18): judged, counted and handed out.
+// OBUs that lie across store and payload (V8 to V12, F6, R18): judged, counted and handed out.
 use base::Refusal;
-use element::ElementRead;
 use obu::Head;
 use obu::ObuRead;
 ghost use mathlib.Core.Path.{_≡_};
@@ -12,7 +11,7 @@ ghost use Rattle.obu.specs.Front.{startOf, spanOf};
 ghost use Rattle.obu.specs.Wire.{wholeOf, framed, wire};
 ghost use Rattle.obu.specs.Paper.{paperHead, paperWhole};
 ghost use Rattle.handing.specs.Handing.{wires};
-ghost use Rattle.handing.specs.Inside.{There, both, counted, RoomAt, putAt, putFirst, between, Finishing};
+ghost use Rattle.handing.specs.Inside.{There, both, countedOne, countedAll, RoomAt, putAt, putFirst, between, Finishing};
 ghost use Rattle.handing.specs.Paper.{paperHanded, fragmentOf};
 
 // The bytes that decide an OBU's front, and the most bytes of an open fragment.
@@ -27,12 +26,16 @@ pub struct Fragment {
     pub size: usize,
 }
 
-// What goes out for finished OBUs: how many bytes.
+// What goes out for finished OBUs: how many bytes; and how many padded size fields they had, those of dropped types too.
 pub struct Handed {
     pub bytes: usize,
+    pub padded: usize,
 }
 
-const NOTHING: Handed = Handed { bytes: 0 };
+const NOTHING: Handed = Handed {
+    bytes: 0,
+    padded: 0,
+};
 
 // That, or the refusal of one of them.
 pub enum HandedOut {
@@ -134,30 +137,38 @@ fn finish_obu(
 ) -> HandedOut
     requires { ⌜ There (now store) (now payload) f ⌝ }
     requires { ⌜ (write ≡ true → RoomAt (length (now out)) at (wire (fragmentOf (now store) (now payload) f))) ⌝ }
-    ensures { λ r. ⌜ (paperHanded r ≡ counted (wire (fragmentOf (now (store .entry)) (now (payload .entry)) f)))
+    ensures { λ r. ⌜ (paperHanded r ≡ countedOne (fragmentOf (now (store .entry)) (now (payload .entry)) f))
         × (now (out .exit) ≡ cond write (putAt (now (out .entry)) at (wire (fragmentOf (now (store .entry)) (now (payload .entry)) f))) (now (out .entry))) ⌝ }
 {
     match judge(store, payload, f) {
         ObuRead::Refused(refusal) => HandedOut::Refused(refusal),
         ObuRead::Found(head) => {
+            let field = leb128::leb128_size(head.payload as u32);
+            let padded = (field < head.field) as usize;
             if obu::should_ignore_obu_type(obu::obu_type(head.header)) {
-                return HandedOut::Bytes(NOTHING);
+                return HandedOut::Bytes(Handed {
+                    bytes: 0,
+                    padded: padded,
+                });
             }
             put_obu(out, at, head, store, payload, f, write);
-            let field = leb128::leb128_size(head.payload as u32);
             let bytes = obu::header_size(head.header) + field + head.payload;
-            HandedOut::Bytes(Handed { bytes: bytes })
+            HandedOut::Bytes(Handed {
+                bytes: bytes,
+                padded: padded,
+            })
         }
     }
 }
 
 // What goes out for both.
 fn together(a: Handed, b: Handed) -> Handed
-    requires { ⌜ a .bytes + b .bytes < 18446744073709551616 ⌝ }
+    requires { ⌜ (a .bytes + b .bytes < 18446744073709551616) × (a .padded + b .padded < 18446744073709551616) ⌝ }
     ensures { λ r. ⌜ r ≡ both a b ⌝ }
 {
     Handed {
         bytes: a.bytes + b.bytes,
+        padded: a.padded + b.padded,
     }
 }
 
@@ -174,7 +185,7 @@ fn hand_out(
 ) -> HandedOut
     requires { ⌜ Finishing (now payload) cursor from to (now store) joined ⌝ }
     requires { ⌜ (write ≡ true → RoomAt (length (now out)) 0 (wires (between (now store) joined (now payload) from to))) ⌝ }
-    ensures { λ r. ⌜ (paperHanded r ≡ counted (wires (between (now (store .entry)) joined (now (payload .entry)) from to)))
+    ensures { λ r. ⌜ (paperHanded r ≡ countedAll (between (now (store .entry)) joined (now (payload .entry)) from to))
         × (now (out .exit) ≡ cond write (putFirst (now (out .entry)) (wires (between (now (store .entry)) joined (now (payload .entry)) from to))) (now (out .entry))) ⌝ }
 {
     let w = element::header_w(payload[0]);
@@ -183,35 +194,28 @@ fn hand_out(
     let mut kept = joined;
     let mut sum = NOTHING;
     while i < to {
-        match element::read_element(payload, at, element::has_field(w, i)) {
-            // never, since the elements were read before
-            ElementRead::Refused { refusal, at: _ } => {
+        let part = element::part_at(payload, at, element::has_field(w, i));
+        let f = Fragment {
+            kept: kept,
+            start: part.start,
+            size: part.length,
+        };
+        match finish_obu(store, payload, f, out, sum.bytes, write) {
+            HandedOut::Refused(refusal) => {
                 return HandedOut::Refused(refusal);
             }
-            ElementRead::Found(part) => {
-                let f = Fragment {
-                    kept: kept,
-                    start: part.start,
-                    size: part.length,
-                };
-                match finish_obu(store, payload, f, out, sum.bytes, write) {
-                    HandedOut::Refused(refusal) => {
-                        return HandedOut::Refused(refusal);
-                    }
-                    HandedOut::Bytes(one) => {
-                        sum = together(sum, one);
-                        kept = 0;
-                        i = i + 1;
-                        at = part.next;
-                    }
-                }
+            HandedOut::Bytes(one) => {
+                sum = together(sum, one);
+                kept = 0;
+                i = i + 1;
+                at = part.next;
             }
         }
     }
     HandedOut::Bytes(sum)
 }
 
-// How many bytes go out for them. Most packets of a long OBU finish none.
+// How many bytes go out for them, and their padded size fields. Most packets of a long OBU finish none.
 // Helper: the payload must be one that is read whole, with `from` and `to` no more than its elements and the cursor where element `from`
 // begins; `joined` must be within the store and within L4.
 pub fn count_out(
@@ -224,7 +228,7 @@ pub fn count_out(
     out: &mut [u8],
 ) -> HandedOut
     requires { ⌜ Finishing (now payload) cursor from to (now store) joined ⌝ }
-    ensures { λ r. ⌜ (paperHanded r ≡ counted (wires (between (now (store .entry)) joined (now (payload .entry)) from to)))
+    ensures { λ r. ⌜ (paperHanded r ≡ countedAll (between (now (store .entry)) joined (now (payload .entry)) from to))
         × (now (out .exit) ≡ now (out .entry)) ⌝ }
 {
     if to <= from {

@@ -3,3 +3,4 @@ pub mod Reading
 pub mod Writing
 pub mod Theorems
 pub mod Refused
+pub mod Padded

@@ -1,6 +1,6 @@
 -- Laws of reading a size field: a step of it, the bounds of what is read, and what decides it. Assumes nothing.
 use mathlib.Core.Path.{_≡_, refl, sym, ap, subst, _∙_}
-use Prim.Native.Nat.{ℕ, zero, suc, _-_, _%_, _≤_, _<_}
+use Prim.Native.Nat.{ℕ, zero, suc, _+_, _-_, _*_, _%_, _≤_, _<_}
 use native.Mathlib.Numerals.{add-one, sub-one}
 use native.Mathlib.Omega.{arith}
 use mathlib.Core.List.{List, [], _∷_}
@@ -32,6 +32,15 @@ unfolding fieldIn
 field-more zero l f e h = absurd (f refl)
 field-more (suc n) [] f e h = absurd (e refl)
 field-more (suc n) (b ∷ l) f e h = rw (le-ltb b 128 h, sub-one)
+
+-- a field of two bytes
+pub field-two : (n : ℕ) (l : List ℕ) → 1 < length l → 128 ≤ getD l 0 0 → getD l 1 0 < 128 → fieldIn (suc (suc n)) l ≡ sized (getD l 0 0 % 128 + 128 * getD l 1 0) 2
+unfolding fieldIn
+field-two n [] h a b = absurd (omega arith)
+field-two n (x ∷ []) h a b = absurd (omega arith)
+field-two n (x ∷ y ∷ l) h a b =
+    let e : y % 128 ≡ y = omega arith in
+    rw (le-ltb x 128 a, lt-ltb y 128 b, e)
 
 -- the call on the remaining bytes
 pub field-after : (n : ℕ) (l : List ℕ) (f : Field) → (n ≡ 0 → ⊥) → (length l ≡ 0 → ⊥) → 128 ≤ getD l 0 0
@@ -82,6 +91,16 @@ capped-small l v u e h = sym (ap (λ (t : Bool). cond t (sized v u) (unreadable 
 
 pub capped-large : (l : List ℕ) (v u : ℕ) → sized v u ≡ fieldIn longestField l → largestValue < v → unreadable 6 ≡ sizeField l
 capped-large l v u e h = sym (ap (λ (t : Bool). cond t (sized v u) (unreadable 6)) (lt-leb v largestValue h)) ∙ ap capped e
+
+-- a field that is not refused is as it was before the test of its value
+pub uncapped : (l : List ℕ) (v u : ℕ) → sized v u ≡ sizeField l → sized v u ≡ fieldIn longestField l
+uncapped l v u e = go (fieldIn longestField l) e
+  where
+    go : (f : Field) → sized v u ≡ capped f → sized v u ≡ f
+    go (unreadable k) q = let z : _≡_ {A = ℕ} 0 1 = cc in absurd (omega arith)
+    go (sized w m) q =
+        by-cond (λ (x : Field). sized v u ≡ x → sized v u ≡ sized w m) (leb w largestValue) (sized w m) (unreadable 6) (λ t e. e)
+        (λ t e. let z : _≡_ {A = ℕ} 0 1 = cc in absurd (omega arith)) q
 
 -- ---- what a caller may take from a field that was read
 

@@ -85,7 +85,7 @@ shortest-in (suc k) v h p = split-on (ltb v 128)
 pub shortest : (v : ℕ) → v ≤ largestValue → Shortest 5 v
 shortest v h = shortest-in 5 v (omega arith) (omega arith)
 
-encode-length : (v : ℕ) (s : Shortest 5 v) → length (encode v) ≡ s .before + 1
+pub encode-length : (v : ℕ) (s : Shortest 5 v) → length (encode v) ≡ s .before + 1
 encode-length v s = ap length (s .is) ∙ form-length (s .before) v
 
 pub read-back : (v : ℕ) (l : List ℕ) → v ≤ largestValue → sizeField (encode v ++ l) ≡ sized v (length (encode v))

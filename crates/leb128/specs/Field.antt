@@ -1,8 +1,11 @@
--- Size fields: what the bytes at the front of a list say, and how a number is written (F1 to F4, R5, R6).
+-- Size fields: what the bytes at the front of a list say, how a number is written, and which fields are padded (F1 to F6, R5, R6).
 use Prim.Native.Nat.{ℕ, zero, suc, _+_, _*_, _/_, _%_}
 use mathlib.Core.List.{List, [], _∷_}
-use mathlib.Core.Bool.{cond}
+use mathlib.Core.Bool.{Bool, cond, not}
+use lib.ListN.{length}
 use lib.Dec.{ltb, leb}
+use Rattle.base.specs.Answers.{Answer, given, refused}
+use Rattle.leb128.specs.declared.SizeField.{SizeField}
 
 -- L5, L6: the most bytes of a field, and the largest value
 abbrev pub longestField : ℕ
@@ -35,7 +38,7 @@ capped (unreadable k) = unreadable k
 abbrev pub sizeField : List ℕ → Field
 sizeField l = capped (fieldIn longestField l)
 
--- v in n bytes and a last one, seven bits a byte; longer than the shortest form, it is a padded one
+-- v in n bytes and a last one, seven bits a byte
 unfoldable pub form : ℕ → ℕ → List ℕ
 form zero v = (v % 128) ∷ []
 form (suc n) v = (128 + v % 128) ∷ form n (v / 128)
@@ -48,3 +51,15 @@ encodeIn (suc k) v = cond (ltb v 128) (v ∷ []) ((128 + v % 128) ∷ encodeIn k
 -- the shortest form of a value up to the largest, which has at most five bytes
 abbrev pub encode : ℕ → List ℕ
 encode v = encodeIn 5 v
+
+-- F6: v in n bytes is padded if its shortest form has fewer; in no byte, which is no field, it is not
+abbrev pub isPadded : ℕ → ℕ → Bool
+isPadded v n = ltb (length (encode v)) n
+
+-- what reading answers: the value, the bytes that it takes, and whether they are its shortest form
+abbrev pub answerBy : Field → Answer SizeField
+answerBy (sized v n) = given (record { value = v; used = n; shortest = not (isPadded v n) })
+answerBy (unreadable k) = refused k 0
+
+abbrev pub sizeAnswer : List ℕ → Answer SizeField
+sizeAnswer l = answerBy (sizeField l)

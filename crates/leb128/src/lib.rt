@@ -1,21 +1,22 @@
-// Size fields (leb128): seven bits a byte, least first, the top bit set on every byte but the last (F1 to F4).
+// Size fields (leb128): seven bits a byte, least first, the top bit set on every byte but the last (F1 to F6).
 use base::Refusal;
 ghost use mathlib.Core.Path.{_≡_};
-ghost use Prim.Native.Nat.{_+_, _≤_};
+ghost use Prim.Native.Nat.{_+_, _≤_, _<_};
 ghost use lib.ListN.{length};
 ghost use Rattle.base.specs.Lists.{replaced};
-ghost use Rattle.leb128.specs.Field.{fieldIn, sizeField, encode, longestField};
-ghost use Rattle.leb128.specs.Paper.{paper, paperTail};
+ghost use Rattle.leb128.specs.Field.{fieldIn, encode, longestField, isPadded, sizeAnswer};
+ghost use Rattle.leb128.specs.Paper.{paper, paperTail, ofTwo};
 
 // The most bytes that a size field may have, and the largest value.
 const LONGEST_FIELD: usize = 8;
 
 const LARGEST_VALUE: u64 = 4294967295;
 
-// A size field that was read: its value, and the bytes that it takes.
+// A size field that was read: its value, the bytes that it takes, and whether they are its shortest form.
 pub struct SizeField {
     pub value: u32,
     pub used: usize,
+    pub shortest: bool,
 }
 
 // What reading a size field finds.
@@ -58,24 +59,46 @@ fn read_tail(bytes: &[u8], left: usize) -> Tail
     }
 }
 
-// Reads the size field at the front of `bytes`: one of a single byte, as most are, with no call.
+// The size field of these two bytes, the first with its top bit set and the second without.
+fn of_two(first: u8, second: u8) -> SizeField
+    requires { ⌜ second < 128 ⌝ }
+    ensures { λ r. ⌜ r ≡ ofTwo first second ⌝ }
+{
+    let low = (first & 127) as u32;
+    let high = second as u32;
+    SizeField {
+        value: low + 128 * high,
+        used: 2,
+        shortest: high > 0,
+    }
+}
+
+// Reads the size field at the front of `bytes`: one of one byte or two, as most are, at once.
 pub fn read_leb128(bytes: &[u8]) -> SizeRead
-    ensures { λ r. ⌜ paper r ≡ sizeField (now (bytes .entry)) ⌝ }
+    ensures { λ r. ⌜ paper r ≡ sizeAnswer (now (bytes .entry)) ⌝ }
 {
     if bytes.len() > 0 {
         if bytes[0] < 128 {
             return SizeRead::Read(SizeField {
                 value: bytes[0] as u32,
                 used: 1,
+                shortest: true,
             });
+        }
+        if bytes.len() > 1 {
+            if bytes[1] < 128 {
+                return SizeRead::Read(of_two(bytes[0], bytes[1]));
+            }
         }
     }
     match read_tail(bytes, LONGEST_FIELD) {
         Tail::Read { value, used } => {
             if value <= LARGEST_VALUE {
+                let small = value as u32;
                 SizeRead::Read(SizeField {
-                    value: value as u32,
+                    value: small,
                     used: used,
+                    shortest: !is_padded(small, used),
                 })
             } else {
                 SizeRead::Refused(Refusal::SizeTooLarge)
@@ -96,6 +119,16 @@ pub fn leb128_size(value: u32) -> usize
         rest = rest >> 7;
     }
     size
+}
+
+// Whether a value in so many bytes is padded: its shortest form has fewer. One byte, as most fields have, never is, nor is no field.
+pub fn is_padded(value: u32, used: usize) -> bool
+    ensures { λ r. ⌜ r ≡ isPadded value used ⌝ }
+{
+    if used < 2 {
+        return false;
+    }
+    leb128_size(value) < used
 }
 
 // Writes the shortest form of `value` at the cursor `at`, and returns the cursor after it.

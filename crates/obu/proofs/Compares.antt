@@ -1,38 +1,39 @@
 -- A unit's records compared with those of a lent list: what the loop keeps, and what the answer says. Assumes nothing.
 --     same-says     a list that is taken begins with the unit's records, and the unit is listed
 --     says-same     and the other way round
-use mathlib.Core.Path.{_≡_, refl, sym, ap, _∙_}
+use mathlib.Core.Path.{_≡_, refl, sym, ap, ap₂, _∙_}
 use Prim.Native.Nat.{ℕ, _+_, _*_, _≤_, _<_}
 use native.Mathlib.Omega.{arith}
-use mathlib.Core.List.{List, [], _∷_, flatMap}
-use mathlib.Core.Bool.{Bool, true, false, cond, not, _&&_, and-true, and-assoc, false≢true}
-use lib.ListN.{length, take, drop, length-drop, drop-of-length-le}
+use mathlib.Core.List.{List, [], _∷_, _++_, flatMap}
+use mathlib.Core.Bool.{Bool, true, false, cond, not, _&&_, and-true, and-assoc}
+use lib.ListN.{length, take, drop, length-drop}
 use lib.Seq.{drop-drop}
-use Rattle.base.specs.Answers.{given, refused, ifSame}
+use Rattle.base.specs.Answers.{Answer, given, refused, ifSame}
 use Rattle.base.specs.Lists.{keep, isFront}
-use Rattle.base.specs.Streams.{streamFrom}
 use Rattle.base.proofs.Lists.{keep-yes, keep-no, keep-none}
 use Rattle.base.proofs.Fronts.{is-front-none, is-front-append, is-front-take, take-is-front, given-same, same-given}
 use Rattle.obu.specs.Header.{typeOf, drops}
 use Rattle.obu.specs.Front.{Front, spanOf, found, stopped, frontOf}
 use Rattle.obu.specs.Records.{obuNumbers, numbersOf, flat}
-use Rattle.obu.specs.Unit.{unitLimit, placed, Scan, scanFrom, isKept, obusOf, listed, sameList}
+use Rattle.obu.specs.Unit.{unitLimit, Placed, placed, Scan, scanFrom, isKept, keptOf, obusOf, listed, keptOnly, sameList}
 use Rattle.obu.specs.declared.Obu.{Obu}
 use Rattle.obu.specs.declared.Listed.{Listed}
-use Rattle.obu.proofs.Scans.{recordsOf, scan-found, foundThen, listed-large, Passed, passed-first, passed-drop, passed-keep, passed-stop, passed-end}
+use Rattle.obu.specs.declared.compare.Kept.{Kept}
+use Rattle.obu.proofs.Scans.{recordsOf, scan-found, foundThen, listed-large, Passed, passed-first, passed-drop, passed-keep, nothing-readable, nothing-left, kept-passed, listed-passed}
 
 -- the records of the bytes from `at` on
 abbrev keptFrom : List ℕ → ℕ → List Obu
 keptFrom unit at = recordsOf (keep isKept (scanFrom (drop at unit) at .items))
 
--- ---- what the loop keeps: that of the listing loop, with space for all and nothing stored; and whether the n records passed are the same
+-- ---- what the loop keeps: n OBUs are kept, and whether their records are the same
 
 pub record Compared (unit l : List ℕ) (at n : ℕ) (same : Bool) : Type 0 where
-  pub walk : Passed unit (length unit) [] false [] at n
+  pub acc : List Placed
+  pub walk : Passed unit at n acc
   pub agrees : isFront (flat (obusOf unit)) l ≡ same && isFront (flat (keptFrom unit at)) (drop (n * obuNumbers) l)
 
-pub compared-first : (unit l : List ℕ) → Compared unit l 0 0 true
-compared-first unit l = record { walk = passed-first unit (length unit) [] false; agrees = refl }
+pub compared-first : {unit l : List ℕ} → Compared unit l 0 0 true
+compared-first = record { acc = []; walk = passed-first; agrees = refl }
 
 module _ (unit : List ℕ) (at : ℕ) (f : Front) (seen : found f ≡ frontOf (drop at unit)) (left : at < length unit) where
   kept-by : keptFrom unit at ≡ recordsOf (keep isKept (foundThen at f (drop at unit) .items))
@@ -58,7 +59,8 @@ module _ {unit l : List ℕ} {at n : ℕ} {same : Bool} (w : Compared unit l at 
     pub compared-drop : drops (typeOf (f .header)) ≡ true → Compared unit l (at + spanOf f) n same
     compared-drop t =
         record {
-          walk = passed-drop unit (length unit) [] false [] at n (w .walk) f seen left t;
+          acc = w .acc ++ (placed at f ∷ []);
+          walk = passed-drop (w .walk) seen left t;
           agrees = w .agrees ∙ ap (λ (os : List Obu). same && isFront (flat os) (drop (n * obuNumbers) l)) (kept-drop unit at f seen left t);
         }
 
@@ -71,7 +73,8 @@ module _ {unit l : List ℕ} {at n : ℕ} {same : Bool} (w : Compared unit l at 
         let after : Bool = isFront (flat rest) (drop ((n + 1) * obuNumbers) l) in
         let e = is ∙ ap (λ (x : Obu). same && isFront (numbersOf x) (drop (n * obuNumbers) l)) made in
         record {
-          walk = passed-keep unit (length unit) [] false [] at n (w .walk) f seen left t (omega (arith, w .walk .few)) (λ z. absurd (false≢true z)) [] refl refl;
+          acc = w .acc ++ (placed at f ∷ []);
+          walk = passed-keep (w .walk) seen left t;
           agrees =
               w .agrees
               ∙ ap (λ (os : List Obu). same && isFront (flat os) (drop (n * obuNumbers) l)) (kept-keep unit at f seen left t)
@@ -80,31 +83,50 @@ module _ {unit l : List ℕ} {at n : ℕ} {same : Bool} (w : Compared unit l at 
               ∙ ap (λ (b : Bool). b && after) (sym e);
         }
 
+  -- a unit has no more OBUs than bytes
+  enough : n ≤ length unit
+  enough = omega (arith, w .walk .few, w .walk .inside)
+
+  -- nothing more is found: all records were compared
+  all-compared : length unit ≤ at → isFront (flat (obusOf unit)) l ≡ same
+  unfolding flatMap
+  all-compared h =
+      let over : keptFrom unit at ≡ [] = ap (λ (s : Scan). recordsOf (keep isKept (s .items))) (nothing-left (w .walk) h) ∙ rw (keep-none isKept) in
+      w .agrees ∙ rw (over, is-front-none (drop (n * obuNumbers) l)) (and-true same)
+
   module _ (small : length unit ≤ unitLimit) where
     pub compared-stop : {k : ℕ} → stopped k ≡ frontOf (drop at unit) → at < length unit → refused k at ≡ sameList unit l
     unfolding sameList
-    compared-stop e h = ap (ifSame (isFront (flat (obusOf unit)) l)) (passed-stop unit (length unit) [] false [] at n (w .walk) _ e h small .0)
+    compared-stop e h = ap (λ (a : Answer Listed). ifSame (isFront (flat (obusOf unit)) l) (keptOnly a)) (listed-passed (w .walk) (nothing-readable (w .walk) e h) enough small)
 
     pub compared-end : length unit ≤ at → cond same (given (record { obus = n })) (refused 31 0) ≡ sameList unit l
-    unfolding sameList streamFrom flatMap
+    unfolding sameList
     compared-end h =
-        let none : keptFrom unit at ≡ [] = rw (drop-of-length-le unit h, keep-none isKept) in
-        let s : isFront (flat (obusOf unit)) l ≡ same = w .agrees ∙ rw (none, is-front-none (drop (n * obuNumbers) l)) (and-true same) in
-        ap (λ (b : Bool). ifSame b (given (record { obus = n }))) (sym s)
-        ∙ ap (ifSame (isFront (flat (obusOf unit)) l)) (passed-end unit (length unit) [] false [] at n (w .walk) h small .0)
+        let none = nothing-left (w .walk) h in
+        let c : n ≡ length (keptOf unit) = sym (ap length (kept-passed (w .walk) none) ∙ w .walk .counted) in
+        ap₂ (λ (b : Bool) (m : ℕ). ifSame b (given (record { obus = m }))) (sym (all-compared h)) c
+        ∙ ap (λ (a : Answer Listed). ifSame (isFront (flat (obusOf unit)) l) (keptOnly a)) (listed-passed (w .walk) none enough small)
 
 -- ---- the answer
 
 pub same-large : (unit l : List ℕ) → unitLimit < length unit → sameList unit l ≡ refused 2 0
 unfolding sameList
-same-large unit l h = ap (ifSame (isFront (flat (obusOf unit)) l)) (listed-large unit (length unit) h)
+same-large unit l h = ap (λ (a : Answer Listed). ifSame (isFront (flat (obusOf unit)) l) (keptOnly a)) (listed-large unit (length unit) h)
 
-pub same-says : (unit l : List ℕ) {g : Listed} → given g ≡ sameList unit l
-    → (given g ≡ listed (length unit) unit) × (take (length (flat (obusOf unit))) l ≡ flat (obusOf unit))
+-- what is said of the kept OBUs is said where the unit is listed
+only-given : (a : Answer Listed) {k : Kept} → given k ≡ keptOnly a → (g : Listed) × (given g ≡ a) × (k .obus ≡ g .obus)
+only-given (given g) {k} e = let o : k .obus ≡ g .obus = cc in (g, refl, o)
+only-given (refused n at) e = let z : _≡_ {A = ℕ} 0 1 = cc in absurd (omega arith)
+
+pub same-says : (unit l : List ℕ) {k : Kept} → given k ≡ sameList unit l
+    → (g : Listed) × (given g ≡ listed (length unit) unit) × (k .obus ≡ g .obus) × (take (length (flat (obusOf unit))) l ≡ flat (obusOf unit))
 unfolding sameList
-same-says unit l e = let h = given-same e in (h .0, is-front-take (flat (obusOf unit)) l (h .1))
+same-says unit l e =
+    let h = given-same e in
+    let (g, f, o) = only-given (listed (length unit) unit) (h .0) in
+    (g, f, o, is-front-take (flat (obusOf unit)) l (h .1))
 
 pub says-same : (unit l : List ℕ) {g : Listed} → given g ≡ listed (length unit) unit → take (length (flat (obusOf unit))) l ≡ flat (obusOf unit)
-    → given g ≡ sameList unit l
+    → given (record { obus = g .obus }) ≡ sameList unit l
 unfolding sameList
-says-same unit l e h = same-given e (take-is-front (flat (obusOf unit)) l h)
+says-same unit l e h = same-given (ap keptOnly e) (take-is-front (flat (obusOf unit)) l h)

@@ -3,6 +3,8 @@ pub mod Rows
 pub mod Fronts
 pub mod Wires
 pub mod Scans
+pub mod Counts
+pub mod Stores
 pub mod Compares
 pub mod Theorems
 pub mod Records

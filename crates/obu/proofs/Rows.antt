@@ -27,17 +27,21 @@ units =
     ∷ (0x32 ∷ 2 ∷ 0xa1 ∷ [])
     ∷ (0x32 ∷ 0x80 ∷ 0x80 ∷ 0x80 ∷ 0x80 ∷ 0x10 ∷ [])
     ∷ (0x32 ∷ 0 ∷ 0x7a ∷ 0 ∷ 0x32 ∷ [])
+    ∷ (0x32 ∷ 0x80 ∷ 0 ∷ 0x12 ∷ 0x81 ∷ 0 ∷ 1 ∷ [])
+    ∷ (0x32 ∷ 0 ∷ [])
+    ∷ (0x12 ∷ 0x80 ∷ 0 ∷ [])
     ∷ []
 
--- a unit of so many kept OBUs
-lists : ℕ → Answer Listed
-lists n = given (record { obus = n })
+-- a unit of so many kept OBUs, and of all of so many padded size fields
+lists : ℕ → ℕ → Answer Listed
+lists n p = given (record { obus = n; padded = p })
 
 table :
     map (listed 2) units
-    ≡ lists 0 ∷ lists 2 ∷ lists 1 ∷ lists 1 ∷ lists 1 ∷ refused 7 4
-    ∷ refused 3 0 ∷ refused 4 0 ∷ refused 4 0 ∷ refused 5 0 ∷ refused 7 0 ∷ refused 6 0 ∷ refused 4 4 ∷ []
-unfolding units lists listed streamFrom frontOf headed fieldIn keep
+    ≡ lists 0 0 ∷ lists 2 0 ∷ lists 1 0 ∷ lists 1 0 ∷ lists 1 1 ∷ refused 7 4
+    ∷ refused 3 0 ∷ refused 4 0 ∷ refused 4 0 ∷ refused 5 0 ∷ refused 7 0 ∷ refused 6 0 ∷ refused 4 4
+    ∷ lists 1 2 ∷ lists 1 0 ∷ lists 0 1 ∷ []
+unfolding units lists listed streamFrom frontOf headed fieldIn encodeIn keep
 table = refl
 
 -- with space for one record, the second kept OBU is refused before the third is looked at

@@ -1,28 +1,25 @@
--- Going through a unit: a step of the scan, and what the loop over it keeps. Assumes nothing.
+-- Going through a unit: a step of the scan, the list call by what there is, and what every loop over a unit keeps. Assumes nothing.
 use mathlib.Core.Path.{_≡_, refl, sym, ap, subst, _∙_}
-use Prim.Native.Nat.{ℕ, _+_, _*_, _≤_, _<_}
+use Prim.Native.Nat.{ℕ, _+_, _≤_, _<_}
 use native.Mathlib.Omega.{arith}
-use mathlib.Core.List.{List, [], _∷_, _++_, append-nil, append-assoc, map, map-append, flatMap}
+use mathlib.Core.List.{List, [], _∷_, _++_, append-nil, append-assoc, map}
 use mathlib.Core.Bool.{Bool, true, false, cond, not}
-use lib.ListN.{length, getD, take, drop, length-append, length-drop, length-map, drop-of-length-le}
-use lib.Seq.{take-all, take-at, getD-at, drop-drop, sets}
+use lib.ListN.{length, getD, drop, length-append, length-drop, drop-of-length-le}
+use lib.Seq.{drop-drop}
 use lib.Dec.{ltb}
-use borrow.Author.Tests.{lt-ltb, le-ltb, ltb-true, ltb-false}
-use Rattle.base.specs.Answers.{given, refused, stored}
-use Rattle.base.specs.Lists.{front, keep}
+use borrow.Author.Tests.{lt-ltb, le-ltb, ltb-false}
+use Rattle.base.specs.Answers.{given, refused}
+use Rattle.base.specs.Lists.{keep}
 use Rattle.base.specs.Streams.{chained, streamFrom}
-use Rattle.base.proofs.Lists.{keep-yes, keep-no, keep-none, keep-append, front-sets}
-use Rattle.base.proofs.Tests.{split-on}
+use Rattle.base.proofs.Lists.{keep-yes, keep-no, keep-none, keep-append}
 use Rattle.base.proofs.Streams.{stream-step}
 use Rattle.obu.specs.Header.{typeOf, drops}
 use Rattle.obu.specs.Front.{Front, spanOf, Seen, found, stopped, frontOf}
-use Rattle.obu.specs.Records.{obuNumbers, numbersOf, flat}
-use Rattle.obu.specs.Unit.{unitLimit, Placed, placed, ScanEnd, ended, refusedBy, Scan, obuBy, obuNext, scanFrom, scanOf, isKept, keptOf, obusOf, listedOf, atStop, listed}
+use Rattle.obu.specs.Unit.{unitLimit, Placed, placed, ScanEnd, ended, refusedBy, Scan, obuBy, obuNext, scanFrom, scanOf, isKept, keptOf, listedOf, atStop, listed}
 use Rattle.obu.specs.Laws.{Spans}
 use Rattle.obu.specs.declared.Obu.{Obu}
 use Rattle.obu.specs.declared.Listed.{Listed}
 use Rattle.obu.proofs.Fronts.{front-spans, obu-some}
-use Rattle.obu.proofs.Records.{flat-length, flat-snoc}
 
 -- ---- a step of the scan
 
@@ -64,78 +61,46 @@ pub listed-large : (unit : List ℕ) (space : ℕ) → unitLimit < length unit �
 unfolding listed
 listed-large unit space h = rw (lt-ltb unitLimit (length unit) h)
 
--- what is stored in the lent list: all records if the unit is listed, nothing if it is refused
-pub stored-all : (unit : List ℕ) (space : ℕ) (g : Listed) (l : List ℕ) → length unit ≤ unitLimit → given g ≡ listed space unit
-    → front (flat (take space (obusOf unit))) l ≡ stored (listed space unit) (flat (obusOf unit)) l
-stored-all unit space g l u e = split-on (ltb space (length (keptOf unit)))
-    (λ t.
-    let f : given g ≡ refused 8 (getD (map (λ (p : Placed). p .at) (keptOf unit)) space 0) = e ∙ listed-full unit space u (ltb-true space (length (keptOf unit)) t) in
-    let z : _≡_ {A = ℕ} 0 1 = cc in
-    absurd (omega arith))
-    (λ t.
-    let h : length (keptOf unit) ≤ space = ltb-false space (length (keptOf unit)) t in
-    rw (← e) (ap (λ (os : List Obu). front (flat os) l) (take-all space (obusOf unit) (omega (arith, length-map (keptOf unit) (λ (p : Placed). p .obu))))))
+-- a unit that is listed is within its limit and read to its end, and there is space for all its kept OBUs
+pub given-listed : (unit : List ℕ) (space : ℕ) {l : Listed} → given l ≡ listed space unit
+    → (length unit ≤ unitLimit) × (scanOf unit .stop ≡ ended) × (l ≡ listedOf unit) × (length (keptOf unit) ≤ space)
+unfolding listed
+given-listed unit space {l} e = go (ltb unitLimit (length unit)) refl (ltb space (length (keptOf unit))) refl (scanOf unit .stop) e
+  where
+    go : (t : Bool) → ltb unitLimit (length unit) ≡ t → (u : Bool) → ltb space (length (keptOf unit)) ≡ u → (s : ScanEnd)
+        → given l ≡ cond t (refused 2 0) (cond u (refused 8 (getD (map (λ (p : Placed). p .at) (keptOf unit)) space 0)) (atStop s (listedOf unit)))
+        → (length unit ≤ unitLimit) × (s ≡ ended) × (l ≡ listedOf unit) × (length (keptOf unit) ≤ space)
+    go true t u v s e = let z : _≡_ {A = ℕ} 0 1 = cc in absurd (omega arith)
+    go false t true v s e = let z : _≡_ {A = ℕ} 0 1 = cc in absurd (omega arith)
+    go false t false v (refusedBy k at) e = let z : _≡_ {A = ℕ} 0 1 = cc in absurd (omega arith)
+    go false t false v ended e =
+        let q : l ≡ listedOf unit = cc in
+        (ltb-false unitLimit (length unit) t, refl, q, ltb-false space (length (keptOf unit)) v)
 
-pub stored-none : (unit : List ℕ) (space k at : ℕ) (l : List ℕ) → refused k at ≡ listed space unit → l ≡ stored (listed space unit) (flat (obusOf unit)) l
-stored-none unit space k at l e = rw (← e)
+-- ---- what every loop over a unit keeps: the OBUs before `at` are passed, and n of them are kept
 
--- ---- what the loop keeps: the OBUs before `at` are passed, n of them kept, and their records stored where told to
-
-pub record Passed (unit : List ℕ) (space : ℕ) (l₀ : List ℕ) (store : Bool) (l : List ℕ) (at n : ℕ) : Type 0 where
-  pub acc : List Placed
+pub record Passed (unit : List ℕ) (at n : ℕ) (acc : List Placed) : Type 0 where
   pub inside : at ≤ length unit
-  pub most : n ≤ space
   pub few : n ≤ at
   pub all : scanOf unit .items ≡ acc ++ scanFrom (drop at unit) at .items
   pub stop : scanOf unit .stop ≡ scanFrom (drop at unit) at .stop
   pub counted : length (keep isKept acc) ≡ n
-  pub same : length l ≡ length l₀
-  pub wrote : l ≡ cond store (front (flat (recordsOf (keep isKept acc))) l₀) l₀
 
-wrote-none : (store : Bool) (l : List ℕ) → l ≡ cond store (front (flat (recordsOf (keep isKept []))) l) l
-unfolding keep flatMap
-wrote-none true l = refl
-wrote-none false l = refl
-
-pub passed-first : (unit : List ℕ) (space : ℕ) (l : List ℕ) (store : Bool) → Passed unit space l store l 0 0
+pub passed-first : {unit : List ℕ} → Passed unit 0 0 []
 unfolding keep
-passed-first unit space l store =
+passed-first =
     record {
-      acc = [];
       inside = omega arith;
-      most = omega arith;
       few = omega arith;
       all = refl;
       stop = refl;
       counted = refl;
-      same = refl;
-      wrote = wrote-none store l;
     }
 
--- one record more is stored, where told to
-more-wrote : (store : Bool) (l m l₀ : List ℕ) (ps : List Placed) (p : Placed) (n : ℕ) {space : ℕ} → length ps ≡ n → n < space
-    → (store ≡ true → space * obuNumbers ≤ length l₀) → m ≡ cond store (sets l (n * obuNumbers) (numbersOf (p .obu))) l
-    → l ≡ cond store (front (flat (recordsOf ps)) l₀) l₀ → m ≡ cond store (front (flat (recordsOf (ps ++ (p ∷ [])))) l₀) l₀
-more-wrote false l m l₀ ps p n c h room e w = e ∙ w
-more-wrote true l m l₀ ps p n c h room e w =
-    let r = room refl in
-    let k : length (flat (recordsOf ps)) ≡ n * obuNumbers = flat-length (recordsOf ps) ∙ ap (λ (i : ℕ). i * obuNumbers) (length-map ps (λ (q : Placed). q .obu) ∙ c) in
-    e
-    ∙ ap (λ (x : List ℕ). sets x (n * obuNumbers) (numbersOf (p .obu))) w
-    ∙ front-sets (flat (recordsOf ps)) (numbersOf (p .obu)) l₀ (n * obuNumbers) k (omega arith)
-    ∙ ap (λ (x : List ℕ). front x l₀) (sym (flat-snoc (recordsOf ps) (p .obu)) ∙ ap flat (sym (map-append (λ (q : Placed). q .obu) ps (p ∷ []))))
-
-module _ (unit : List ℕ) (space : ℕ) (l₀ : List ℕ) (store : Bool) (l : List ℕ) (at n : ℕ) (w : Passed unit space l₀ store l at n) where
-  -- the kept OBUs are those of what is passed, and then those of what is left
-  abbrev passedKept : List Placed
-  passedKept = keep isKept (w .acc)
-
-  kept-split : (rest : List Placed) → scanFrom (drop at unit) at .items ≡ rest → keptOf unit ≡ passedKept ++ keep isKept rest
-  kept-split rest e = ap (keep isKept) (w .all ∙ ap (λ (r : List Placed). w .acc ++ r) e) ∙ keep-append isKept (w .acc) rest
-
+module _ {unit : List ℕ} {at n : ℕ} {acc : List Placed} (w : Passed unit at n acc) where
   -- ---- an OBU was found
 
-  module _ (f : Front) (seen : found f ≡ frontOf (drop at unit)) (left : at < length unit) where
+  module _ {f : Front} (seen : found f ≡ frontOf (drop at unit)) (left : at < length unit) where
     pub spans : at + spanOf f ≤ length unit
     spans =
         let s : Spans (drop at unit) (found f) = subst (Spans (drop at unit)) (sym seen) (front-spans (drop at unit)) in
@@ -147,83 +112,83 @@ module _ (unit : List ℕ) (space : ℕ) (l₀ : List ℕ) (store : Bool) (l : L
     rest-at : drop (spanOf f) (drop at unit) ≡ drop (at + spanOf f) unit
     rest-at = drop-drop (spanOf f) at unit
 
-    all-next : scanOf unit .items ≡ (w .acc ++ (placed at f ∷ [])) ++ scanFrom (drop (at + spanOf f) unit) (at + spanOf f) .items
+    all-next : scanOf unit .items ≡ (acc ++ (placed at f ∷ [])) ++ scanFrom (drop (at + spanOf f) unit) (at + spanOf f) .items
     all-next =
         w .all
-        ∙ ap (λ (s : Scan). w .acc ++ s .items) scan-next
-        ∙ rw rest-at (sym (append-assoc (w .acc) (placed at f ∷ []) (scanFrom (drop (at + spanOf f) unit) (at + spanOf f) .items)))
+        ∙ ap (λ (s : Scan). acc ++ s .items) scan-next
+        ∙ rw rest-at (sym (append-assoc acc (placed at f ∷ []) (scanFrom (drop (at + spanOf f) unit) (at + spanOf f) .items)))
 
     stop-next : scanOf unit .stop ≡ scanFrom (drop (at + spanOf f) unit) (at + spanOf f) .stop
     stop-next = w .stop ∙ ap (λ (s : Scan). s .stop) scan-next ∙ rw rest-at
 
-    kept-next : (t : Bool) → isKept (placed at f) ≡ t → keep isKept (w .acc ++ (placed at f ∷ [])) ≡ passedKept ++ cond t (placed at f ∷ []) []
-    kept-next true e = keep-append isKept (w .acc) (placed at f ∷ []) ∙ ap (λ (r : List Placed). passedKept ++ r) (keep-yes isKept (placed at f) [] e ∙ rw (keep-none isKept))
-    kept-next false e = keep-append isKept (w .acc) (placed at f ∷ []) ∙ ap (λ (r : List Placed). passedKept ++ r) (keep-no isKept (placed at f) [] e ∙ keep-none isKept)
+    -- it is dropped: the same are kept
+    module _ (t : drops (typeOf (f .header)) ≡ true) where
+      pub kept-same : keep isKept (acc ++ (placed at f ∷ [])) ≡ keep isKept acc
+      kept-same =
+          keep-append isKept acc (placed at f ∷ [])
+          ∙ ap (λ (r : List Placed). keep isKept acc ++ r) (keep-no isKept (placed at f) [] (ap not t) ∙ keep-none isKept)
+          ∙ append-nil (keep isKept acc)
 
-    pub passed-drop : drops (typeOf (f .header)) ≡ true → Passed unit space l₀ store l (at + spanOf f) n
-    passed-drop t =
-        let k : keep isKept (w .acc ++ (placed at f ∷ [])) ≡ passedKept = kept-next false (ap not t) ∙ append-nil passedKept in
-        record {
-          acc = w .acc ++ (placed at f ∷ []);
-          inside = spans;
-          most = w .most;
-          few = omega arith;
-          all = all-next;
-          stop = stop-next;
-          counted = ap length k ∙ w .counted;
-          same = w .same;
-          wrote = w .wrote ∙ ap (λ (ps : List Placed). cond store (front (flat (recordsOf ps)) l₀) l₀) (sym k);
-        }
+      pub passed-drop : Passed unit (at + spanOf f) n (acc ++ (placed at f ∷ []))
+      passed-drop =
+          record {
+            inside = spans;
+            few = omega (arith, w .few);
+            all = all-next;
+            stop = stop-next;
+            counted = ap length kept-same ∙ w .counted;
+          }
 
-    pub passed-keep : drops (typeOf (f .header)) ≡ false → n < space → (store ≡ true → space * obuNumbers ≤ length l₀) → (m : List ℕ) → length m ≡ length l
-        → m ≡ cond store (sets l (n * obuNumbers) (numbersOf (placed at f .obu))) l → Passed unit space l₀ store m (at + spanOf f) (n + 1)
-    passed-keep t h room m q e =
-        let k : keep isKept (w .acc ++ (placed at f ∷ [])) ≡ passedKept ++ (placed at f ∷ []) = kept-next true (ap not t) in
-        record {
-          acc = w .acc ++ (placed at f ∷ []);
-          inside = spans;
-          most = omega arith;
-          few = omega arith;
-          all = all-next;
-          stop = stop-next;
-          counted = ap length k ∙ omega (arith, length-append passedKept (placed at f ∷ []), w .counted);
-          same = q ∙ w .same;
-          wrote =
-              more-wrote store l m l₀ passedKept (placed at f) n (w .counted) h room e (w .wrote)
-              ∙ ap (λ (ps : List Placed). cond store (front (flat (recordsOf ps)) l₀) l₀) (sym k);
-        }
+    -- it is kept: one more
+    module _ (t : drops (typeOf (f .header)) ≡ false) where
+      pub kept-more : keep isKept (acc ++ (placed at f ∷ [])) ≡ keep isKept acc ++ (placed at f ∷ [])
+      kept-more =
+          keep-append isKept acc (placed at f ∷ [])
+          ∙ ap (λ (r : List Placed). keep isKept acc ++ r) (keep-yes isKept (placed at f) [] (ap not t) ∙ rw (keep-none isKept))
 
-    pub passed-full : drops (typeOf (f .header)) ≡ false → n ≡ space → length unit ≤ unitLimit
-        → (refused 8 at ≡ listed space unit) × (l ≡ cond store (front (flat (take space (obusOf unit))) l₀) l₀)
-    passed-full t h u =
-        let r : List Placed = keep isKept (scanFrom (drop (spanOf f) (drop at unit)) (at + spanOf f) .items) in
-        let k : keptOf unit ≡ passedKept ++ (placed at f ∷ r) =
-        kept-split _ (ap (λ (s : Scan). s .items) scan-next) ∙ ap (λ (ps : List Placed). passedKept ++ ps) (keep-yes isKept (placed at f) _ (ap not t)) in
-        let c : length passedKept ≡ space = w .counted ∙ h in
-        let long : space < length (keptOf unit) = rw k (omega (arith, length-append passedKept (placed at f ∷ r))) in
-        let a : getD (map (λ (p : Placed). p .at) (keptOf unit)) space 0 ≡ at =
-        rw (k, map-append (λ (p : Placed). p .at) passedKept (placed at f ∷ r)) (getD-at (map (λ (p : Placed). p .at) passedKept) at (map (λ (p : Placed). p .at) r) 0 space (length-map passedKept (λ (p : Placed). p .at) ∙ c)) in
-        let o : take space (obusOf unit) ≡ recordsOf passedKept =
-        rw (k, map-append (λ (p : Placed). p .obu) passedKept (placed at f ∷ r)) (take-at (recordsOf passedKept) (recordsOf (placed at f ∷ r)) space (length-map passedKept (λ (p : Placed). p .obu) ∙ c)) in
-        (ap (refused 8) (sym a) ∙ sym (listed-full unit space u long), w .wrote ∙ ap (λ (os : List Obu). cond store (front (flat os) l₀) l₀) (sym o))
+      pub passed-keep : Passed unit (at + spanOf f) (n + 1) (acc ++ (placed at f ∷ []))
+      passed-keep =
+          record {
+            inside = spans;
+            few = omega (arith, w .few);
+            all = all-next;
+            stop = stop-next;
+            counted = ap length kept-more ∙ omega (arith, length-append (keep isKept acc) (placed at f ∷ []), w .counted);
+          }
 
-  -- ---- nothing more is found
+      -- it stands among the kept OBUs of the unit after those that are passed
+      pub kept-here : (rest : List Placed) × (keptOf unit ≡ keep isKept acc ++ (placed at f ∷ rest))
+      kept-here = (
+        keep isKept (scanFrom (drop (spanOf f) (drop at unit)) (at + spanOf f) .items),
+        ap (keep isKept) (w .all ∙ ap (λ (s : Scan). acc ++ s .items) scan-next)
+            ∙ keep-append isKept acc _
+            ∙ ap (λ (ps : List Placed). keep isKept acc ++ ps) (keep-yes isKept (placed at f) _ (ap not t)),
+      )
 
-  nothing-more : (s : ScanEnd) → scanFrom (drop at unit) at ≡ record { items = []; stop = s } → length unit ≤ unitLimit
-      → (atStop s (record { obus = n }) ≡ listed space unit) × (l ≡ cond store (front (flat (take space (obusOf unit))) l₀) l₀)
-  nothing-more s e u =
-      let k : keptOf unit ≡ passedKept = kept-split [] (ap (λ (x : Scan). x .items) e) ∙ rw (keep-none isKept) (append-nil passedKept) in
-      let c : length (keptOf unit) ≡ n = ap length k ∙ w .counted in
-      let o : take space (obusOf unit) ≡ recordsOf passedKept =
-      take-all space (obusOf unit) (omega (arith, length-map (keptOf unit) (λ (p : Placed). p .obu), c, w .most)) ∙ ap recordsOf k in
-      let z : scanOf unit .stop ≡ s = w .stop ∙ ap (λ (x : Scan). x .stop) e in
-      (rw (listed-enough unit space u (omega (arith, c, w .most)), z, c), w .wrote ∙ ap (λ (os : List Obu). cond store (front (flat os) l₀) l₀) (sym o))
+      pub kept-beyond : n < length (keptOf unit)
+      kept-beyond =
+          let (rest, k) = kept-here in
+          rw k (omega (arith, length-append (keep isKept acc) (placed at f ∷ rest), w .counted))
 
-  pub passed-stop : (k : ℕ) → stopped k ≡ frontOf (drop at unit) → at < length unit → length unit ≤ unitLimit
-      → (refused k at ≡ listed space unit) × (l ≡ cond store (front (flat (take space (obusOf unit))) l₀) l₀)
-  passed-stop k e h u = nothing-more (refusedBy k at) (scan-stopped (drop at unit) at k e (omega (arith, length-drop at unit))) u
+  -- ---- nothing more is found, and why
 
-  pub passed-end : length unit ≤ at → length unit ≤ unitLimit
-      → (given (record { obus = n }) ≡ listed space unit) × (l ≡ cond store (front (flat (take space (obusOf unit))) l₀) l₀)
+  pub nothing-readable : {k : ℕ} → stopped k ≡ frontOf (drop at unit) → at < length unit → scanFrom (drop at unit) at ≡ record { items = []; stop = refusedBy k at }
+  nothing-readable {k} e h = scan-stopped (drop at unit) at k e (omega (arith, length-drop at unit))
+
+  pub nothing-left : length unit ≤ at → scanFrom (drop at unit) at ≡ record { items = []; stop = ended }
   unfolding streamFrom
-  passed-end h u = nothing-more ended (ap (λ (x : List ℕ). scanFrom x at) (drop-of-length-le unit h)) u
+  nothing-left h = ap (λ (x : List ℕ). scanFrom x at) (drop-of-length-le unit h)
+
+  module _ {s : ScanEnd} (none : scanFrom (drop at unit) at ≡ record { items = []; stop = s }) where
+    pub all-passed : scanOf unit .items ≡ acc
+    all-passed = w .all ∙ ap (λ (x : Scan). acc ++ x .items) none ∙ append-nil acc
+
+    pub stop-is : scanOf unit .stop ≡ s
+    stop-is = w .stop ∙ ap (λ (x : Scan). x .stop) none
+
+    pub kept-passed : keptOf unit ≡ keep isKept acc
+    kept-passed = ap (keep isKept) all-passed
+
+    -- with space for those that are kept, the unit is listed
+    pub listed-passed : {space : ℕ} → n ≤ space → length unit ≤ unitLimit → atStop s (listedOf unit) ≡ listed space unit
+    listed-passed {space} h u = sym (listed-enough unit space u (omega (arith, ap length kept-passed, w .counted)) ∙ ap (λ (x : ScanEnd). atStop x (listedOf unit)) stop-is)

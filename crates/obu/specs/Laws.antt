@@ -3,16 +3,13 @@ use mathlib.Core.Path.{_≡_}
 use Prim.Native.Nat.{ℕ, _+_, _≤_, _<_}
 use mathlib.Core.List.{List}
 use mathlib.Core.Logic.{_⊎_}
-use lib.ListN.{length, getD}
+use lib.ListN.{length}
 use Rattle.leb128.specs.Field.{encode}
+pub use Rattle.leb128.specs.Laws.{Bytes}
 use Rattle.obu.specs.Header.{headerSize}
 use Rattle.obu.specs.Front.{spanOf, Seen, found, stopped}
 use Rattle.obu.specs.Unit.{Placed}
 use Rattle.obu.specs.declared.Obu.{Obu}
-
--- numbers that are bytes
-abbrev pub Bytes : List ℕ → Type 0
-Bytes l = (i : ℕ) → getD l i 0 < 256
 
 -- what is found at the front of the bytes lies in them; and its size field is no shorter than the shortest, or it is the last
 abbrev pub Spans : List ℕ → Seen → Type 0

@@ -8,6 +8,9 @@ use Rattle.obu.specs.declared.ObuRead.{ObuRead}
 use Rattle.obu.specs.declared.ObuRead.the-variants as read
 use Rattle.obu.specs.declared.ObuList.{ObuList}
 use Rattle.obu.specs.declared.ObuList.the-variants as list
+use Rattle.obu.specs.declared.compare.Kept.{Kept}
+use Rattle.obu.specs.declared.compare.SameList.{SameList}
+use Rattle.obu.specs.declared.compare.SameList.the-variants as same
 
 abbrev pub paperHead : Head → front.Front
 paperHead f =
@@ -30,3 +33,7 @@ paperWhole (read.Refused r) = refused (numberOf r) 0
 abbrev pub paperList : ObuList → Answer Listed
 paperList (list.Listed l) = given l
 paperList (list.Refused r at) = refused (numberOf r) at
+
+abbrev pub paperSame : SameList → Answer Kept
+paperSame (same.Same k) = given k
+paperSame (same.Refused r at) = refused (numberOf r) at

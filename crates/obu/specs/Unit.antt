@@ -1,4 +1,4 @@
--- The OBUs of a unit, and the list call (O1, O5 to O9, R2, R8, C1).
+-- The OBUs of a unit, and the list call (O1, O5 to O9, F6, R2, R8, C1).
 use Prim.Native.Nat.{ℕ, _+_, _/_}
 use mathlib.Core.List.{List, map}
 use mathlib.Core.Bool.{Bool, cond, not}
@@ -7,11 +7,13 @@ use lib.Dec.{ltb}
 use Rattle.base.specs.Answers.{Answer, given, refused, stored, ifSame}
 use Rattle.base.specs.Lists.{keep, isFront}
 use Rattle.base.specs.Streams.{Next, item, halt, Stream, streamOf}
+use Rattle.leb128.specs.Field.{isPadded}
 use Rattle.obu.specs.Header.{typeOf, headerSize, drops}
 use Rattle.obu.specs.Front.{Front, startOf, spanOf, Seen, found, stopped, frontOf}
 use Rattle.obu.specs.Records.{obuNumbers, flat}
 use Rattle.obu.specs.declared.Obu.{Obu}
 use Rattle.obu.specs.declared.Listed.{Listed}
+use Rattle.obu.specs.declared.compare.Kept.{Kept}
 
 -- L1
 abbrev pub unitLimit : ℕ
@@ -71,11 +73,15 @@ keptOf unit = keep isKept (scanOf unit .items)
 abbrev pub obusOf : List ℕ → List Obu
 obusOf unit = map (λ (p : Placed). p .obu) (keptOf unit)
 
+-- whether the size field of an OBU is padded (F6)
+abbrev pub hasPadded : Placed → Bool
+hasPadded p = isPadded (p .obu .length) (p .field)
+
 -- ---- the list call, with space for so many records
 
--- what is said of a unit that is listed
+-- what is said of a unit that is listed: how many OBUs are kept, and of all, the dropped ones too, how many size fields are padded
 abbrev pub listedOf : List ℕ → Listed
-listedOf unit = record { obus = length (keptOf unit) }
+listedOf unit = record { obus = length (keptOf unit); padded = length (keep hasPadded (scanOf unit .items)) }
 
 abbrev pub atStop : ScanEnd → Listed → Answer Listed
 atStop ended l = given l
@@ -99,5 +105,10 @@ listAfter unit l = stored (listAnswer unit l) (flat (obusOf unit)) l
 -- ---- a lent list that is to hold the unit's records (R31): refused as by the list call, with space enough (a unit has no more OBUs than
 -- bytes), and then if the first of its numbers are others. What stands after the records is not looked at
 
-unfoldable pub sameList : List ℕ → List ℕ → Answer Listed
-sameList unit l = ifSame (isFront (flat (obusOf unit)) l) (listed (length unit) unit)
+-- the kept OBUs alone of what is listed
+abbrev pub keptOnly : Answer Listed → Answer Kept
+keptOnly (given l) = given (record { obus = l .obus })
+keptOnly (refused n at) = refused n at
+
+unfoldable pub sameList : List ℕ → List ℕ → Answer Kept
+sameList unit l = ifSame (isFront (flat (obusOf unit)) l) (keptOnly (listed (length unit) unit))

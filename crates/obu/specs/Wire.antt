@@ -1,11 +1,11 @@
--- A kept OBU as it is sent, and what a receiver hands out for an OBU of exactly these bytes (O10 to O12, R18).
+-- A kept OBU as it is sent, and what a receiver hands out for an OBU of exactly these bytes (O10 to O12, F6, R18).
 use Prim.Native.Nat.{ℕ}
 use mathlib.Core.List.{List, [], _∷_, _++_}
-use mathlib.Core.Bool.{cond}
+use mathlib.Core.Bool.{Bool, false, cond}
 use lib.ListN.{length, take, drop}
 use lib.Dec.{eqb}
 use Rattle.base.specs.Answers.{Answer, given, refused}
-use Rattle.leb128.specs.Field.{encode}
+use Rattle.leb128.specs.Field.{encode, isPadded}
 use Rattle.obu.specs.Header.{typeOf, extensionBit, cleared, marked, drops}
 use Rattle.obu.specs.Front.{Front, startOf, spanOf, Seen, found, stopped, frontOf}
 use Rattle.obu.specs.declared.Obu.{Obu}
@@ -28,6 +28,14 @@ exactly bytes (stopped n) = refused 18 0
 
 unfoldable pub wholeOf : List ℕ → Answer Front
 wholeOf bytes = exactly bytes (frontOf bytes)
+
+-- whether its size field is padded (F6)
+abbrev pub paddedBy : Answer Front → Bool
+paddedBy (given f) = isPadded (f .payload) (f .field)
+paddedBy (refused n at) = false
+
+unfoldable pub paddedSize : List ℕ → Bool
+paddedSize bytes = paddedBy (wholeOf bytes)
 
 -- bit 1 set, extension byte, shortest size field, payload
 abbrev pub framed : ℕ → ℕ → List ℕ → List ℕ

@@ -1,8 +1,6 @@
 // Whether a lent flat list is the one that a unit gives (R31).
-use crate::Listed;
 use crate::OBU_NUMBERS;
 use crate::Obu;
-use crate::ObuList;
 use crate::ObuRead;
 use crate::UNIT_LIMIT;
 use base::Refusal;
@@ -13,7 +11,18 @@ ghost use lib.ListN.{length, drop};
 ghost use Rattle.base.specs.Lists.{isFront};
 ghost use Rattle.obu.specs.Records.{obuNumbers, numbersOf};
 ghost use Rattle.obu.specs.Unit.{unitLimit, sameList};
-ghost use Rattle.obu.specs.Paper.{paperList};
+ghost use Rattle.obu.specs.Paper.{paperSame};
+
+// How many OBUs of a unit are kept.
+pub struct Kept {
+    pub obus: usize,
+}
+
+// The answer of the comparing call.
+pub enum SameList {
+    Same(Kept),
+    Refused { refusal: Refusal, at: usize },
+}
 
 // Whether record `n` of a list has the numbers of an OBU, and the records before it were the same.
 fn same_obu(obus: &[u32], n: usize, o: Obu, same: bool) -> bool
@@ -34,9 +43,9 @@ fn same_obu(obus: &[u32], n: usize, o: Obu, same: bool) -> bool
 }
 
 // Goes through a unit to its end, and compares the record of each kept OBU with that of the list.
-fn compare_obus(unit: &[u8], obus: &[u32]) -> ObuList
+fn compare_obus(unit: &[u8], obus: &[u32]) -> SameList
     requires { ⌜ length (now unit) ≤ unitLimit ⌝ }
-    ensures { λ r. ⌜ paperList r ≡ sameList (now (unit .entry)) (now (obus .entry)) ⌝ }
+    ensures { λ r. ⌜ paperSame r ≡ sameList (now (unit .entry)) (now (obus .entry)) ⌝ }
 {
     let mut at: usize = 0;
     let mut n: usize = 0;
@@ -44,7 +53,7 @@ fn compare_obus(unit: &[u8], obus: &[u32]) -> ObuList
     while at < unit.len() {
         match crate::read_obu(&unit[at..], unit.len() - at) {
             ObuRead::Refused(refusal) => {
-                return ObuList::Refused {
+                return SameList::Refused {
                     refusal: refusal,
                     at: at,
                 };
@@ -62,20 +71,20 @@ fn compare_obus(unit: &[u8], obus: &[u32]) -> ObuList
         }
     }
     if same {
-        return ObuList::Listed(Listed { obus: n });
+        return SameList::Same(Kept { obus: n });
     }
-    ObuList::Refused {
+    SameList::Refused {
         refusal: Refusal::ListsDiffer,
         at: 0,
     }
 }
 
 // Whether a lent flat list begins with the records of a unit's kept OBUs: how many there are, or 31.
-pub fn same_list(unit: &[u8], obus: &[u32]) -> ObuList
-    ensures { λ r. ⌜ paperList r ≡ sameList (now (unit .entry)) (now (obus .entry)) ⌝ }
+pub fn same_list(unit: &[u8], obus: &[u32]) -> SameList
+    ensures { λ r. ⌜ paperSame r ≡ sameList (now (unit .entry)) (now (obus .entry)) ⌝ }
 {
     if unit.len() > UNIT_LIMIT {
-        return ObuList::Refused {
+        return SameList::Refused {
             refusal: Refusal::UnitOverLimit,
             at: 0,
         };

@@ -1,21 +1,24 @@
 // OBUs: a unit is taken apart into the list of its kept OBUs (O1 to O9), and an OBU of exactly some bytes is judged (R18).
 mod compare; // compare.rt: whether a list is that of a unit
+mod unit; // unit.rt: the OBUs of a unit counted, and their records stored
 
 use base::Refusal;
+pub use compare::Kept;
+pub use compare::SameList;
 pub use compare::same_list;
 use leb128::SizeRead;
+pub use unit::count_obus;
 ghost use mathlib.Core.Path.{_≡_};
 ghost use Prim.Native.Nat.{ℕ, _+_, _*_, _^_, _≤_, _<_, min};
-ghost use mathlib.Core.Bool.{true, cond};
+ghost use mathlib.Core.Bool.{cond};
 ghost use mathlib.Core.List.{List, _∷_};
 ghost use lib.ListN.{length, take, getD};
 ghost use lib.Dec.{eqb};
-ghost use lib.Seq.{sets};
-ghost use Rattle.base.specs.Lists.{replaced, front};
+ghost use Rattle.base.specs.Lists.{replaced};
 ghost use Rattle.obu.specs.Header.{typeOf, extensionBit, sizeBit, headerSize, cleared, marked, drops};
 ghost use Rattle.obu.specs.Front.{headBytes, spanOf, frontOf};
-ghost use Rattle.obu.specs.Records.{obuNumbers, numbersOf, flat, obusIn, noObu};
-ghost use Rattle.obu.specs.Unit.{unitLimit, placed, obusOf, listed, listAnswer, listAfter};
+ghost use Rattle.obu.specs.Records.{obuNumbers, obusIn, noObu};
+ghost use Rattle.obu.specs.Unit.{unitLimit, placed, listAnswer, listAfter};
 ghost use Rattle.obu.specs.Wire.{extensionBytes, wholeOf};
 ghost use Rattle.obu.specs.Paper.{paperHead, paperRead, paperWhole, paperList};
 
@@ -47,9 +50,10 @@ pub enum ObuRead {
     Refused(Refusal),
 }
 
-// What a unit's list holds.
+// What a unit's list holds: how many OBUs are kept, and how many size fields of all its OBUs are padded.
 pub struct Listed {
     pub obus: usize,
+    pub padded: usize,
 }
 
 // The answer of the list call.
@@ -226,23 +230,6 @@ fn record_at(head: Head, at: usize) -> Obu
     }
 }
 
-// Writes the numbers of record `n`, where told to.
-fn put_obu(obus: &mut [u32], n: usize, o: Obu, store: bool)
-    requires { ⌜ (store ≡ true → (n + 1) * obuNumbers ≤ length (now obus)) ⌝ }
-    ensures { λ _. ⌜ now (obus .exit) ≡ cond store (sets (now (obus .entry)) (n * obuNumbers) (numbersOf o)) (now (obus .entry)) ⌝ }
-{
-    if store {
-        let numbers = [
-            o.header as u32,
-            o.extension as u32,
-            o.start,
-            o.length,
-            o.size,
-        ];
-        base::put_numbers(obus, n * OBU_NUMBERS, &numbers);
-    }
-}
-
 // Record i of a flat list of any numbers: of the header and of the extension byte the low byte counts.
 // Helper: the list must have a whole record i.
 pub fn obu_at(obus: &[u32], i: usize) -> Obu
@@ -259,44 +246,6 @@ pub fn obu_at(obus: &[u32], i: usize) -> Obu
     }
 }
 
-// Goes through a unit, with space for so many records: counts the kept OBUs, and stores their records where told to.
-fn list_obus(unit: &[u8], space: usize, obus: &mut [u32], store: bool) -> ObuList
-    requires { ⌜ length (now unit) ≤ unitLimit ⌝ }
-    requires { ⌜ (store ≡ true → space * obuNumbers ≤ length (now obus)) ⌝ }
-    ensures { λ r. ⌜ (paperList r ≡ listed space (now (unit .entry)))
-        × (now (obus .exit) ≡ cond store (front (flat (take space (obusOf (now (unit .entry))))) (now (obus .entry))) (now (obus .entry))) ⌝ }
-{
-    let mut at: usize = 0;
-    let mut n: usize = 0;
-    while at < unit.len() {
-        match read_obu(&unit[at..], unit.len() - at) {
-            ObuRead::Refused(refusal) => {
-                return ObuList::Refused {
-                    refusal: refusal,
-                    at: at,
-                };
-            }
-            ObuRead::Found(head) => {
-                let next = at + span(head);
-                if should_ignore_obu_type(obu_type(head.header)) {
-                    at = next;
-                } else {
-                    if n == space {
-                        return ObuList::Refused {
-                            refusal: Refusal::ObuListFull,
-                            at: at,
-                        };
-                    }
-                    put_obu(obus, n, record_at(head, at), store);
-                    n = n + 1;
-                    at = next;
-                }
-            }
-        }
-    }
-    ObuList::Listed(Listed { obus: n })
-}
-
 // The kept OBUs of a unit, as records in a lent flat list.
 pub fn parse_obus(unit: &[u8], obus: &mut [u32]) -> ObuList
     ensures { λ r. ⌜ (paperList r ≡ listAnswer (now (unit .entry)) (now (obus .entry)))
@@ -308,9 +257,11 @@ pub fn parse_obus(unit: &[u8], obus: &mut [u32]) -> ObuList
             at: 0,
         };
     }
-    let space = obus.len() / OBU_NUMBERS;
-    match list_obus(unit, space, obus, false) {
-        ObuList::Listed(_) => list_obus(unit, space, obus, true),
+    match count_obus(unit, obus.len() / OBU_NUMBERS) {
+        ObuList::Listed(listed) => {
+            unit::store_obus(unit, obus);
+            ObuList::Listed(listed)
+        }
         ObuList::Refused { refusal, at } => ObuList::Refused {
             refusal: refusal,
             at: at,

@@ -6,14 +6,15 @@ use mathlib.Core.Bool.{Bool, true, false, cond}
 use mathlib.Core.List.{List, [], _∷_, map}
 use lib.ListN.{length, getD, take, length-map}
 use lib.Dec.{ltb}
-use borrow.Author.Tests.{ltb-false, lt-ltb, le-ltb}
+use borrow.Author.Tests.{lt-ltb, le-ltb}
 use Rattle.base.specs.Answers.{Answer, given, refused, stored}
 use Rattle.base.specs.Lists.{front}
 use Rattle.base.proofs.Lists.{front-sets}
-use Rattle.obu.specs.Unit.{unitLimit, Placed, ScanEnd, ended, refusedBy, scanOf, keptOf, obusOf, listedOf, atStop, listed, listAnswer, listAfter}
+use Rattle.obu.specs.Unit.{unitLimit, Placed, keptOf, obusOf, listedOf, listed, listAnswer, listAfter}
 use Rattle.obu.specs.Records.{obuNumbers, flat, obusIn}
 use Rattle.obu.specs.declared.Obu.{Obu}
 use Rattle.obu.specs.declared.Listed.{Listed}
+use Rattle.obu.proofs.Scans.{given-listed}
 use Rattle.obu.proofs.Theorems.{weight, sizeOf, sizes-small}
 use Rattle.obu.proofs.Records.{obus-part, readBack, obus-flat}
 use Rattle.packetizer.specs.Call.{mtuLimit, sizes, sizesOf, unitPlan, planned, Inputs, toPlan, leaves, planAnswer, planUnit}
@@ -51,18 +52,7 @@ unit-near mtu unit k m h l =
 -- ---- what the list call says of a unit that it lists
 
 pub given-kept : (unit : List ℕ) (space : ℕ) (l : Listed) → given l ≡ listed space unit → (length unit ≤ unitLimit) × (l ≡ listedOf unit) × (length (keptOf unit) ≤ space)
-unfolding listed
-given-kept unit space l e = go (ltb unitLimit (length unit)) refl (ltb space (length (keptOf unit))) refl (scanOf unit .stop) e
-  where
-    go : (t : Bool) → ltb unitLimit (length unit) ≡ t → (u : Bool) → ltb space (length (keptOf unit)) ≡ u → (s : ScanEnd)
-        → given l ≡ cond t (refused 2 0) (cond u (refused 8 (getD (map (λ (p : Placed). p .at) (keptOf unit)) space 0)) (atStop s (listedOf unit)))
-        → (length unit ≤ unitLimit) × (l ≡ listedOf unit) × (length (keptOf unit) ≤ space)
-    go true t u v s e = let z : _≡_ {A = ℕ} 0 1 = cc in absurd (omega arith)
-    go false t true v s e = let z : _≡_ {A = ℕ} 0 1 = cc in absurd (omega arith)
-    go false t false v (refusedBy k at) e = let z : _≡_ {A = ℕ} 0 1 = cc in absurd (omega arith)
-    go false t false v ended e =
-        let q : l ≡ listedOf unit = cc in
-        (ltb-false unitLimit (length unit) t, q, ltb-false space (length (keptOf unit)) v)
+given-kept unit space l e = let g = given-listed unit space e in (g .0, g .2, g .3)
 
 -- it has space for its OBUs
 pub listed-few : (unit : List ℕ) (space : ℕ) (l : Listed) → given l ≡ listed space unit → length (obusOf unit) ≤ space

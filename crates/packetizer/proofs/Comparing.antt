@@ -14,10 +14,9 @@ use Rattle.base.proofs.Tests.{split-on}
 use Rattle.base.proofs.Lists.{flatMap-append}
 use Rattle.base.proofs.Fronts.{is-front-none, is-front-append}
 use Rattle.obu.specs.Unit.{unitLimit}
-use Rattle.obu.specs.declared.Listed.{Listed}
 use Rattle.packetizer.specs.Plan.{leastMtu, startAfter, startLimit, planOf}
 use Rattle.packetizer.specs.Records.{planNumbers, recordNumbers, flatPlan, noPacket}
-use Rattle.packetizer.specs.Call.{compared}
+use Rattle.packetizer.specs.Call.{samePackets}
 use Rattle.packetizer.specs.Cursor.{toCome, Walkable, Comparable, Starts, Begins}
 use Rattle.packetizer.specs.declared.PacketMetadata.{PacketMetadata}
 use Rattle.packetizer.proofs.Records.{plan-length}
@@ -133,8 +132,8 @@ module _ {mtu : ℕ} {sizes plan : List ℕ} {i o start n : ℕ} (w : Passed mtu
 
 module _ (ps : List PacketMetadata) (plan : List ℕ) where
   pub compared-same : {count obus packets : ℕ} → obus ≡ count → (packets ≡ length ps) × (isFront (flatPlan ps) plan ≡ true)
-      → given (record { obus = obus; packets = packets }) ≡ compared ps plan (given (record { obus = count }))
+      → given (record { obus = obus; packets = packets }) ≡ samePackets ps plan count
   compared-same e h = rw (h .1, e, h .0)
 
-  pub compared-other : (l : Listed) → isFront (flatPlan ps) plan ≡ false → refused 31 0 ≡ compared ps plan (given l)
-  compared-other l h = rw h
+  pub compared-other : (count : ℕ) → isFront (flatPlan ps) plan ≡ false → refused 31 0 ≡ samePackets ps plan count
+  compared-other count h = rw h

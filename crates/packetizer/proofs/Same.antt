@@ -15,10 +15,11 @@ use Rattle.base.specs.Answers.{Answer, given, refused, ifSame}
 use Rattle.base.specs.Lists.{isFront}
 use Rattle.base.proofs.Tests.{by-cond}
 use Rattle.base.proofs.Fronts.{is-front-take, take-is-front, given-same}
-use Rattle.obu.specs.Unit.{unitLimit, Placed, ScanEnd, ended, refusedBy, scanOf, keptOf, obusOf, listedOf, atStop, listed, sameList}
+use Rattle.obu.specs.Unit.{unitLimit, Placed, ScanEnd, ended, refusedBy, scanOf, keptOf, obusOf, listedOf, atStop, listed, keptOnly, sameList}
 use Rattle.obu.specs.Records.{obuNumbers, flat, obusIn}
 use Rattle.obu.specs.declared.Obu.{Obu}
 use Rattle.obu.specs.declared.Listed.{Listed}
+use Rattle.obu.specs.declared.compare.Kept.{Kept}
 use Rattle.obu.proofs.Records.{flat-length, obus-count}
 use Rattle.obu.proofs.Scans.{listed-enough}
 use Rattle.obu.proofs.Compares.{same-says, says-same}
@@ -42,29 +43,29 @@ part-is a l {n} e h =
 -- ---- the OBU list
 
 -- a lent list begins with the records of a unit
-pub record SameObus (unit obus : List ℕ) (l : Listed) : Type 0 where
+pub record SameObus (unit obus : List ℕ) (k : Kept) : Type 0 where
   pub small : length unit ≤ unitLimit
-  pub counted : l .obus ≡ length (obusOf unit)
-  pub long : l .obus * obuNumbers ≤ length obus
-  pub same : take (l .obus * obuNumbers) obus ≡ flat (obusOf unit)
+  pub counted : k .obus ≡ length (obusOf unit)
+  pub long : k .obus * obuNumbers ≤ length obus
+  pub same : take (k .obus * obuNumbers) obus ≡ flat (obusOf unit)
 
-pub same-obus : {unit obus : List ℕ} {l : Listed} → given l ≡ sameList unit obus → SameObus unit obus l
-same-obus {unit} {obus} {l} e =
-    let g = same-says unit obus e in
-    let k = given-kept unit (length unit) l (g .0) in
-    let c : l .obus ≡ length (obusOf unit) = ap (λ (x : Listed). x .obus) (k .1) ∙ sym (length-map (keptOf unit) (λ (p : Placed). p .obu)) in
-    let p = part-is (flat (obusOf unit)) obus (ap (λ (n : ℕ). n * obuNumbers) c ∙ sym (flat-length (obusOf unit))) (g .1) in
-    record { small = k .0; counted = c; long = p .0; same = p .1 }
+pub same-obus : {unit obus : List ℕ} {k : Kept} → given k ≡ sameList unit obus → SameObus unit obus k
+same-obus {unit} {obus} {k} e =
+    let (l, listing, o, same) = same-says unit obus e in
+    let g = given-kept unit (length unit) l listing in
+    let c : k .obus ≡ length (obusOf unit) = o ∙ ap (λ (x : Listed). x .obus) (g .1) ∙ sym (length-map (keptOf unit) (λ (p : Placed). p .obu)) in
+    let p = part-is (flat (obusOf unit)) obus (ap (λ (n : ℕ). n * obuNumbers) c ∙ sym (flat-length (obusOf unit))) same in
+    record { small = g .0; counted = c; long = p .0; same = p .1 }
 
 -- the part of the list that holds the records
-module _ {unit obus : List ℕ} {l : Listed} (s : SameObus unit obus l) where
+module _ {unit obus : List ℕ} {k : Kept} (s : SameObus unit obus k) where
   abbrev part : List ℕ
-  part = take (l .obus * obuNumbers) obus
+  part = take (k .obus * obuNumbers) obus
 
   pub same-sizes : sizes (obusIn part) ≡ sizesOf unit
   same-sizes = ap (λ (x : List ℕ). sizes (obusIn x)) (s .same) ∙ flat-sizes unit
 
-  pub same-count : length (obusIn part) ≡ l .obus
+  pub same-count : length (obusIn part) ≡ k .obus
   same-count =
       obus-count part ∙ omega (arith, ap length (s .same), flat-length (obusOf unit), s .counted)
 
@@ -89,7 +90,7 @@ module _ (mtu : ℕ) (unit obus plan : List ℕ) where
   unfolding samePlan
   same-1 h = rw (lt-ltb mtuLimit mtu h)
 
-  pub same-answered : mtu ≤ mtuLimit → (a : Answer Listed) → a ≡ sameList unit obus → compared (unitPlan mtu unit) plan a ≡ samePlan mtu unit obus plan
+  pub same-answered : mtu ≤ mtuLimit → (a : Answer Kept) → a ≡ sameList unit obus → compared (unitPlan mtu unit) plan a ≡ samePlan mtu unit obus plan
   unfolding samePlan
   same-answered m a e = rw (le-ltb mtuLimit mtu m, e)
 
@@ -97,15 +98,15 @@ pub same-means : {mtu : ℕ} {unit obus plan : List ℕ} {q : Planned} → given
 unfolding samePlan
 same-means {mtu} {unit} {obus} {plan} {q} e = go (ltb mtuLimit mtu) refl (sameList unit obus) refl e
   where
-    go : (t : Bool) → ltb mtuLimit mtu ≡ t → (a : Answer Listed) → a ≡ sameList unit obus → given q ≡ cond t (refused 1 0) (compared (unitPlan mtu unit) plan a)
+    go : (t : Bool) → ltb mtuLimit mtu ≡ t → (a : Answer Kept) → a ≡ sameList unit obus → given q ≡ cond t (refused 1 0) (compared (unitPlan mtu unit) plan a)
         → Same mtu unit obus plan q
     go true t a f e = let z : _≡_ {A = ℕ} 0 1 = cc in absurd (omega arith)
-    go false t (refused k at) f e = let z : _≡_ {A = ℕ} 0 1 = cc in absurd (omega arith)
-    go false t (given l) f e =
+    go false t (refused n at) f e = let z : _≡_ {A = ℕ} 0 1 = cc in absurd (omega arith)
+    go false t (given k) f e =
         let ps = unitPlan mtu unit in
-        let h : (given q ≡ given (record { obus = l .obus; packets = length ps })) × (isFront (flatPlan ps) plan ≡ true) = given-same e in
-        let g : given q ≡ given (record { obus = l .obus; packets = length ps }) = h .0 in
-        let o : q .obus ≡ l .obus = cc in
+        let h : (given q ≡ given (record { obus = k .obus; packets = length ps })) × (isFront (flatPlan ps) plan ≡ true) = given-same e in
+        let g : given q ≡ given (record { obus = k .obus; packets = length ps }) = h .0 in
+        let o : q .obus ≡ k .obus = cc in
         let p : q .packets ≡ length ps = cc in
         let s = same-obus f in
         let r = part-is (flatPlan ps) plan (ap (λ (n : ℕ). n * planNumbers) p ∙ sym (plan-length ps)) (is-front-take (flatPlan ps) plan (h .1)) in
@@ -128,7 +129,7 @@ kept-count unit =
     let e : length (sizesOf unit) ≡ length (keptOf unit) = length-map (obusOf unit) (λ (o : Obu). o .size) ∙ length-map (keptOf unit) (λ (p : Placed). p .obu) in
     omega (arith, total-count (sizesOf unit) (unit-positive unit), unit-total unit)
 
-given-enough : (unit : List ℕ) (space : ℕ) {l : Listed} → given l ≡ listed space unit → given l ≡ listed (length unit) unit
+pub given-enough : (unit : List ℕ) (space : ℕ) {l : Listed} → given l ≡ listed space unit → given l ≡ listed (length unit) unit
 given-enough unit space {l} e =
     let k = given-kept unit space l e in
     e ∙ listed-enough unit space (k .0) (k .2) ∙ sym (listed-enough unit (length unit) (k .0) (kept-count unit))
@@ -142,11 +143,11 @@ means-same {mtu} {unit} {obus} {plan} {q} {l} space e s =
     let n : length (flat (obusOf unit)) ≡ q .obus * obuNumbers = flat-length (obusOf unit) ∙ ap (λ (m : ℕ). m * obuNumbers) (sym (s .obus-count)) in
     let m : length (flatPlan ps) ≡ q .packets * planNumbers = plan-length ps ∙ ap (λ (m : ℕ). m * planNumbers) (sym (s .plan-count)) in
     let b : isFront (flatPlan ps) plan ≡ true = take-is-front (flatPlan ps) plan (rw m (s .plan-same)) in
-    let f : given l ≡ sameList unit obus = says-same unit obus (given-enough unit space e) (rw n (s .obus-same)) in
+    let f : given (record { obus = l .obus }) ≡ sameList unit obus = says-same unit obus (given-enough unit space e) (rw n (s .obus-same)) in
     let g : ℕ → ℕ → Answer Planned = λ x y. given (record { obus = x; packets = y }) in
     ap₂ g (s .obus-count ∙ sym c) (s .plan-count)
     ∙ sym (ap (λ (t : Bool). ifSame t (g (l .obus) (length ps))) b)
-    ∙ same-answered mtu unit obus plan (s .mtu-within) (given l) f
+    ∙ same-answered mtu unit obus plan (s .mtu-within) (given (record { obus = l .obus })) f
 
 -- ---- its refusals: those of the plan call but 8 and 9, and 31
 
@@ -172,13 +173,17 @@ few-listed unit =
     (λ u. absurd (omega (arith, ltb-true (length unit) (length (keptOf unit)) u, kept-count unit)))
     (λ u. few-stop unit (scanOf unit .stop) (scan-low unit)))
 
+few-only : (a : Answer Listed) → Few a → Few (keptOnly a)
+few-only (given l) h = tt
+few-only (refused k at) h = h
+
 few-list : (unit obus : List ℕ) → Few (sameList unit obus)
 unfolding sameList
-few-list unit obus = few-same (isFront (flat (obusOf unit)) obus) (listed (length unit) unit) (few-listed unit)
+few-list unit obus = few-same (isFront (flat (obusOf unit)) obus) (keptOnly (listed (length unit) unit)) (few-only (listed (length unit) unit) (few-listed unit))
 
-few-compared : (ps : List PacketMetadata) (plan : List ℕ) (a : Answer Listed) → Few a → Few (compared ps plan a)
-few-compared ps plan (given l) h = few-same (isFront (flatPlan ps) plan) (given (record { obus = l .obus; packets = length ps })) tt
-few-compared ps plan (refused k at) h = h
+few-compared : (ps : List PacketMetadata) (plan : List ℕ) (a : Answer Kept) → Few a → Few (compared ps plan a)
+few-compared ps plan (given k) h = few-same (isFront (flatPlan ps) plan) (given (record { obus = k .obus; packets = length ps })) tt
+few-compared ps plan (refused n at) h = h
 
 module _ (mtu : ℕ) (unit obus plan : List ℕ) {k at : ℕ} where
   pub same-refused : refused k at ≡ samePlan mtu unit obus plan → (k ≤ 7) ⊎ (k ≡ 31)

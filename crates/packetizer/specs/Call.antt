@@ -9,6 +9,7 @@ use Rattle.base.specs.Lists.{isFront}
 use Rattle.obu.specs.Unit.{obusOf, listAnswer, listAfter, sameList}
 use Rattle.obu.specs.declared.Obu.{Obu}
 use Rattle.obu.specs.declared.Listed.{Listed}
+use Rattle.obu.specs.declared.compare.Kept.{Kept}
 use Rattle.packetizer.specs.Plan.{planOf}
 use Rattle.packetizer.specs.Records.{planNumbers, flatPlan}
 use Rattle.packetizer.specs.declared.PacketMetadata.{PacketMetadata}
@@ -71,8 +72,12 @@ planUnit i =
 -- ---- lent lists that are to hold the records of the unit and of its plan (R31): refused as by the plan call, with space enough, and then if
 -- the first of their numbers are others. What stands after the records is not looked at
 
-abbrev pub compared : List PacketMetadata → List ℕ → Answer Listed → Answer Planned
-compared ps plan (given l) = ifSame (isFront (flatPlan ps) plan) (given (record { obus = l .obus; packets = length ps }))
+-- a plan that is to hold these packets of so many OBUs
+abbrev pub samePackets : List PacketMetadata → List ℕ → ℕ → Answer Planned
+samePackets ps plan n = ifSame (isFront (flatPlan ps) plan) (given (record { obus = n; packets = length ps }))
+
+abbrev pub compared : List PacketMetadata → List ℕ → Answer Kept → Answer Planned
+compared ps plan (given k) = samePackets ps plan (k .obus)
 compared ps plan (refused n at) = refused n at
 
 unfoldable pub samePlan : ℕ → List ℕ → List ℕ → List ℕ → Answer Planned

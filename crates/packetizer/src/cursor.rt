@@ -10,12 +10,11 @@ use base::Refusal;
 ghost use mathlib.Core.Path.{_≡_};
 ghost use Prim.Native.Nat.{_*_, _≤_, _<_};
 ghost use lib.ListN.{length, drop};
-ghost use Rattle.base.specs.Answers.{given};
 ghost use Rattle.base.specs.Lists.{isFront};
 ghost use Rattle.obu.specs.Unit.{unitLimit};
 ghost use Rattle.obu.specs.Records.{obusIn};
 ghost use Rattle.packetizer.specs.Plan.{planFrom, planOf};
-ghost use Rattle.packetizer.specs.Call.{sizes, compared};
+ghost use Rattle.packetizer.specs.Call.{sizes, samePackets};
 ghost use Rattle.packetizer.specs.Paper.{paper};
 ghost use Rattle.packetizer.specs.Records.{planNumbers, recordNumbers};
 ghost use Rattle.packetizer.specs.Cursor.{toCome, Walkable, Starts, Fillable, Begins, Comparable};
@@ -128,8 +127,8 @@ fn same_record(plan: &[u32], n: usize, p: PacketMetadata) -> bool
 // Helper: the mtu must be within its limit, each OBU have a byte, and all of them together fit a unit.
 pub fn same_packets(obus: &[u32], mtu: usize, plan: &[u32]) -> PlanAnswer
     requires { ⌜ Comparable mtu (sizes (obusIn (now obus))) ⌝ }
-    ensures { λ r. ⌜ paper r ≡ compared (planOf mtu (sizes (obusIn (now (obus .entry))))) (now (plan .entry))
-        (given (record { obus = length (obusIn (now (obus .entry))) })) ⌝ }
+    ensures { λ r. ⌜ paper r ≡ samePackets (planOf mtu (sizes (obusIn (now (obus .entry))))) (now (plan .entry))
+        (length (obusIn (now (obus .entry)))) ⌝ }
 {
     let count = obus.len() / obu::OBU_NUMBERS;
     if mtu < LEAST_MTU {

@@ -4,6 +4,7 @@ mod cursor; // cursor.rt: packet after packet, compared with a lent plan
 
 use base::Refusal;
 use obu::ObuList;
+use obu::SameList;
 ghost use mathlib.Core.Path.{_≡_};
 ghost use Prim.Native.Nat.{_+_, _*_, _≤_, _<_};
 ghost use mathlib.Core.Bool.{true};
@@ -247,12 +248,12 @@ pub fn same_plan(mtu: usize, unit: &[u8], obus: &[u32], plan: &[u32]) -> PlanAns
         };
     }
     match obu::same_list(unit, obus) {
-        ObuList::Refused { refusal, at } => PlanAnswer::Refused {
+        SameList::Refused { refusal, at } => PlanAnswer::Refused {
             refusal: refusal,
             at: at,
         },
-        ObuList::Listed(listed) => {
-            let own = listed.obus * obu::OBU_NUMBERS;
+        SameList::Same(kept) => {
+            let own = kept.obus * obu::OBU_NUMBERS;
             cursor::same_packets(&obus[..own], mtu, plan)
         }
     }

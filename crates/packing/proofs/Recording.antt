@@ -24,7 +24,7 @@ use Rattle.train.specs.Train.{longHead, shortPayload, headFor, numberWidth, Num
 use Rattle.train.specs.declared.TrainHead.{TrainHead}
 use Rattle.train.proofs.Fields.{fields-length}
 use Rattle.packing.specs.Pack.{unitStore, listRecords, outputBytes}
-use Rattle.packing.specs.Steps.{recordRoom, after, Ready, LentPackets, Recordable}
+use Rattle.packing.specs.Steps.{recordRoom, Ready, LentPackets, Recordable}
 use Rattle.packing.specs.declared.unit.Progress.{Progress}
 
 abbrev pub packet : ℕ → List ℕ → Numbered
@@ -103,13 +103,15 @@ module _ {mtu : ℕ} {g : Progress} {unit obus plan written : List ℕ} {w : ℕ
       let stands = put-front (rw width at put) (omega (arith, lent .written-is)) in
       (stands .0, most, stands .1)
 
--- after it the next one is ready
-pub ready-next : {mtu : ℕ} {g : Progress} {unit obus plan : List ℕ} → Ready mtu g unit obus plan → Ready mtu (after g) unit obus plan
-ready-next r =
+-- whichever packet is the next
+pub ready-for : {mtu : ℕ} {g : Progress} {unit obus plan : List ℕ} (k : ℕ) → Ready mtu g unit obus plan
+    → Ready mtu (record { unit = g .unit; obus = g .obus; packets = g .packets; packet = k }) unit obus plan
+ready-for k r =
     record {
       unit-is = r .unit-is;
       small = r .small;
       most = r .most;
+      listing = r .listing;
       obus-room = r .obus-room;
       obus-is = r .obus-is;
       packets-is = r .packets-is;

@@ -45,13 +45,13 @@ outputBy l x = record { written = trainBy (unitsBy l x .items) x; said = saidBy 
 
 -- ---- what came decides as the whole does
 
-length-front : (l : List ℕ) → lengthIn (take unitWidth l) ≡ lengthIn l
+pub length-front : (l : List ℕ) → lengthIn (take unitWidth l) ≡ lengthIn l
 unfolding lengthIn
 length-front [] = refl
 length-front (b ∷ l) = rw (short-front unitWidth (b ∷ l), take-take 3 3 l (omega arith))
 
 -- a length that is stated is there whole
-stated-there : (l : List ℕ) (s : ℕ) → lengthIn l ≡ stated s → unitWidth ≤ length l
+pub stated-there : (l : List ℕ) (s : ℕ) → lengthIn l ≡ stated s → unitWidth ≤ length l
 unfolding lengthIn
 stated-there [] s e = let z : _≡_ {A = ℕ} 0 1 = cc in absurd (omega arith)
 stated-there (b ∷ l) s e = split-on (ltb (length (b ∷ l)) unitWidth)
@@ -82,6 +82,29 @@ some-after mtu i l (stated s) =
 
 pub unit-some : (mtu i : ℕ) (l : List ℕ) → Some (unitNext mtu i l)
 unit-some mtu i l = some-after mtu i l (lengthIn l)
+
+-- ---- the units of some bytes, by the length that was read
+
+module _ (mtu i : ℕ) (l : List ℕ) where
+  pub units-by : (x : Length) → lengthIn (take unitWidth l) ≡ x → unitsFrom mtu i l ≡ chained (unitAfter mtu i l x) (λ m j. unitsFrom mtu j (drop m l))
+  unfolding lengthIn
+  units-by x e =
+      stream-next (unitNext mtu) ended (unit-some mtu) (λ j. refl) l i
+      ∙ ap (λ (y : Length). chained (unitAfter mtu i l y) (λ m j. unitsFrom mtu j (drop m l))) (sym (length-front l) ∙ e)
+
+  -- the rest begins after the bytes of the unit
+  rest-units : (m : ℕ) (u : List ℕ) (t : Bool) (a : Answer Planned)
+      → chained (cond t (halt (cutAt i)) (unitBy i (unitWidth + m) u a)) (λ k j. unitsFrom mtu j (drop k l))
+      ≡ chained (cond t (halt (cutAt i)) (unitBy i (unitWidth + m) u a)) (λ k j. unitsFrom mtu j (drop m (drop unitWidth l)))
+  rest-units m u true a = refl
+  rest-units m u false (refused k at) = refl
+  rest-units m u false (given p) = rw (drop-drop m unitWidth l)
+
+  pub units-stated : (m : ℕ) → lengthIn (take unitWidth l) ≡ stated m
+      → unitsFrom mtu i l ≡ chained (unitAfter mtu i l (stated m)) (λ k j. unitsFrom mtu j (drop m (drop unitWidth l)))
+  units-stated m e =
+      let u : List ℕ = take m (drop unitWidth l) in
+      units-by (stated m) e ∙ rest-units m u (ltb (length (drop unitWidth l)) m) (answerIn listRecords listRecords mtu u)
 
 -- ---- the end of a run
 
@@ -188,24 +211,10 @@ module _ (mtu : ℕ) where
 
   module _ (i n : ℕ) (s l : List ℕ) (turns need : ℕ) (some : 2 ≤ turns)
       (again : (m : ℕ) → lengthIn (take unitWidth l) ≡ stated m → (listRecords + 3 + need ≤ turns) × Enough turns need (nextCount i) (drop m (drop unitWidth l))) where
-    units-by : (x : Length) → lengthIn (take unitWidth l) ≡ x → units-at i l ≡ chained (unitAfter mtu i l x) (λ m j. units-at j (drop m l))
-    unfolding lengthIn
-    units-by x e =
-        stream-next (unitNext mtu) ended (unit-some mtu) (λ j. refl) l i
-        ∙ ap (λ (y : Length). chained (unitAfter mtu i l y) (λ m j. units-at j (drop m l))) (sym (length-front l) ∙ e)
-
-    -- the rest begins after the bytes of the unit
-    rest-units : (m : ℕ) (u : List ℕ) (t : Bool) (a : Answer Planned)
-        → chained (cond t (halt (cutAt i)) (unitBy i (unitWidth + m) u a)) (λ k j. units-at j (drop k l))
-        ≡ chained (cond t (halt (cutAt i)) (unitBy i (unitWidth + m) u a)) (λ k j. units-at j (drop m (drop unitWidth l)))
-    rest-units m u true a = refl
-    rest-units m u false (refused k at) = refl
-    rest-units m u false (given p) = rw (drop-drop m unitWidth l)
-
     by-length : (k : ℕ) → k ≡ turns → (x : Length) → lengthIn (take unitWidth l) ≡ x → run k (lengthTold (before i n) x) s (drop unitWidth l) ≡ outputFor n (units-at i l)
     unfolding loop unitIn flatMap numbered
-    by-length k q over e = run-ends k (awaits (before i n) wait.Nothing) _ _ ∙ sym (ap (outputFor n) (units-by over e))
-    by-length k q cut e = run-says k (omega arith) (before i n) _ _ s _ ∙ sym (ap (outputFor n) (units-by cut e))
+    by-length k q over e = run-ends k (awaits (before i n) wait.Nothing) _ _ ∙ sym (ap (outputFor n) (units-by mtu i l over e))
+    by-length k q cut e = run-says k (omega arith) (before i n) _ _ s _ ∙ sym (ap (outputFor n) (units-by mtu i l cut e))
     by-length zero q (stated m) e = absurd (omega arith)
     by-length (suc k) q (stated m) e =
         let r = drop unitWidth l in
@@ -214,7 +223,7 @@ module _ (mtu : ℕ) where
         (rw (take-take m m r (omega arith), short-front m r)
         (by-unit i turns need (drop m r) (a .1) k n m (omega arith) (omega (arith, a .0)) (take m r) (front (take m r) s) (ltb (length r) m)
         (λ t. take-at (take m r) (drop (length (take m r)) s) m (length-take-le m r (ltb-false (length r) m t)))))
-        ∙ sym (ap (outputFor n) (units-by (stated m) e ∙ rest-units m (take m r) (ltb (length r) m) (answerIn listRecords listRecords mtu (take m r))))
+        ∙ sym (ap (outputFor n) (units-stated mtu i l m e))
 
   -- ---- all units
 

@@ -1,5 +1,5 @@
 -- One unit, by what the plan call answers. Assumes nothing.
-use mathlib.Core.Path.{_≡_, refl, ap}
+use mathlib.Core.Path.{_≡_, refl, sym, ap, _∙_}
 use Prim.Native.Nat.{ℕ, _/_, _≤_, _<_}
 use native.Mathlib.Omega.{arith}
 use mathlib.Core.List.{List}
@@ -14,8 +14,8 @@ use Rattle.obu.specs.declared.Listed.{Listed}
 use Rattle.packetizer.specs.Call.{mtuLimit, unitPlan, toPlan, planned, planAnswer, planUnit}
 use Rattle.packetizer.specs.Records.{planNumbers}
 use Rattle.packetizer.specs.declared.Planned.{Planned}
-use Rattle.packetizer.proofs.Calls.{listed-few}
-use Rattle.packetizer.proofs.Accepted.{planned-lists}
+use Rattle.packetizer.proofs.Calls.{given-kept, listed-few}
+use Rattle.packetizer.proofs.Accepted.{accepted, obus-length, planned-lists}
 use Rattle.packing.specs.Pack.{unitStore, listRecords, answerIn, cutShort, packedBy, unitIn}
 use Rattle.packing.specs.Steps.{obuListNumbers, planListNumbers, begins, stepIn, Ready}
 use Rattle.packing.specs.declared.unit.UnitAnswer.the-variants as unit
@@ -33,10 +33,12 @@ module _ (mtu : ℕ) (unit obus plan : List ℕ) where
       → Ready mtu (begins (length unit) p) unit obus′ plan′
   unit-ready p small e obus′ plan′ o q =
       let s = planned-lists mtu unit obus plan p e in
+      let l = accepted mtu unit obus plan p e .listing in
       rw (o, q) (record {
         unit-is = refl;
         small = small;
         most = s .mtu-within;
+        listing = ap given (sym (given-kept unit (length obus / obuNumbers) (l .0) (l .1) .1)) ∙ l .1 ∙ ap (λ (n : ℕ). listed (n / obuNumbers) unit) (sym (obus-length mtu unit obus plan p e));
         obus-room = s .obus-long;
         obus-is = s .obus-same;
         packets-is = s .plan-count;
@@ -56,11 +58,11 @@ pub step-in : (mtu s : ℕ) (l obus plan : List ℕ) → length obus ≡ obuList
     → unitIn (answerIn (length obus / obuNumbers) (length plan / planNumbers)) mtu s l ≡ stepIn mtu s l
 step-in mtu s l obus plan a b = rw (a, b) refl
 
--- ---- a unit that is packed has space for its records, in both lists
+-- ---- a unit that is packed has space for its records, in both lists, and its packets are counted
 
 module _ (mtu : ℕ) (u : List ℕ) (p : Planned) where
   abbrev Few : Type 0
-  Few = (length (obusOf u) ≤ listRecords) × (length (unitPlan mtu u) ≤ listRecords)
+  Few = (length (obusOf u) ≤ listRecords) × (length (unitPlan mtu u) ≤ listRecords) × (p .packets ≡ length (unitPlan mtu u))
 
   by-planned : (a : Answer Listed) → a ≡ listed listRecords u → given p ≡ planned (unitPlan mtu u) listRecords a → Few
   by-planned (refused k at) q e = let z : _≡_ {A = ℕ} 0 1 = cc in absurd (omega arith)
@@ -69,7 +71,10 @@ module _ (mtu : ℕ) (u : List ℕ) (p : Planned) where
       let f : given p ≡ refused 9 0 = rw t at e in
       let z : _≡_ {A = ℕ} 0 1 = cc in
       absurd (omega arith))
-      (λ t. (listed-few u listRecords l q, ltb-false listRecords (length (unitPlan mtu u)) t))
+      (λ t.
+      let f : given p ≡ given (record { obus = l .obus; packets = length (unitPlan mtu u) }) = rw t at e in
+      let c : p .packets ≡ length (unitPlan mtu u) = cc in
+      (listed-few u listRecords l q, ltb-false listRecords (length (unitPlan mtu u)) t, c))
 
   pub packed-few : given p ≡ answerIn listRecords listRecords mtu u → Few
   packed-few e = split-on (ltb mtuLimit mtu)

@@ -1,9 +1,10 @@
 -- The steps of `pack`: what each turn tells the program, by what came of the one before (G2 to G4, G6, G7, G14).
-use Prim.Native.Nat.{ℕ, _+_, _*_, _≤_, _<_}
+use Prim.Native.Nat.{ℕ, _+_, _*_, _/_, _≤_, _<_}
 use mathlib.Core.Path.{_≡_}
 use mathlib.Core.List.{List, [], _∷_}
 use lib.ListN.{length, take, drop}
-use Rattle.obu.specs.Unit.{obusOf}
+use Rattle.base.specs.Answers.{given}
+use Rattle.obu.specs.Unit.{obusOf, listedOf, listed}
 use Rattle.obu.specs.Records.{obuNumbers, flat}
 use Rattle.packetizer.specs.Call.{mtuLimit, unitPlan}
 use Rattle.packetizer.specs.Records.{planNumbers, flatPlan}
@@ -127,11 +128,12 @@ told p writeFailed input = says (awaits p wait.Nothing) (writtenOf (p .wait) (p 
 
 -- ---- what a step asks, and what it gives
 
--- list and plan are those of this unit
+-- the unit is listed in this much space, and list and plan are its own
 pub record Ready (mtu : ℕ) (g : Progress) (unit obus plan : List ℕ) : Type 0 where
   pub unit-is : length unit ≡ g .unit
   pub small : length unit ≤ unitStore
   pub most : mtu ≤ mtuLimit
+  pub listing : given (listedOf unit) ≡ listed (length obus / obuNumbers) unit
   pub obus-room : g .obus * obuNumbers ≤ length obus
   pub obus-is : take (g .obus * obuNumbers) obus ≡ flat (obusOf unit)
   pub packets-is : g .packets ≡ length (unitPlan mtu unit)

@@ -11,7 +11,7 @@ use turns::Came;
 use turns::Order;
 use turns::Subject;
 use turns::Word;
-use unit::Progress;
+pub use unit::Progress;
 use unit::UnitAnswer;
 ghost use mathlib.Core.Path.{_≡_};
 ghost use Prim.Native.Nat.{ℕ, _≤_, _<_};

@@ -22,7 +22,7 @@ use Rattle.element.specs.declared.Part.{Part}
 use Rattle.element.proofs.Laws.{element-some, whole-more}
 use Rattle.handing.specs.Handing.{fragmentLimit, before, wires}
 use Rattle.receiver.specs.Packet.{Packet, packetBy, packetOf}
-use Rattle.receiver.specs.Joining.{Label, Held, ahead, out}
+use Rattle.receiver.specs.Joining.{Held, ahead, out}
 use Rattle.receiver.specs.Call.{Incoming, Taken, tooLong, fitted, leadsTo, wired, opened, taken, heldIn, Inputs, outcome, after, answered, received}
 use Rattle.receiver.proofs.Outcomes.{not-long, outcome-behind}
 
@@ -125,13 +125,13 @@ fitted-other space room t =
     (λ e. λ z. omega arith)
     (λ e. by-cond Other (ltb room (length (t .bytes))) _ _ (λ f. λ z. omega arith) (λ f. tt))
 
-wired-other : (space room : ℕ) (h : Held) (l : Label) (p : Packet) (w : Answer (List ℕ)) → Other w → Other (wired space room h l p w)
-wired-other space room h l p (given bytes) k = fitted-other space room (leadsTo h l p bytes)
-wired-other space room h l p (refused n at) k = k
+wired-other : (space room : ℕ) (h : Held) (p : Incoming) (q : Packet) (w : Answer (List ℕ)) → Other w → Other (wired space room h p q w)
+wired-other space room h p q (given bytes) k = fitted-other space room (leadsTo h p q bytes)
+wired-other space room h p q (refused n at) k = k
 
-opened-other : (space room : ℕ) (h : Held) (l : Label) (x : Answer Packet) → Other x → Other (opened space room h l x)
-opened-other space room h l (given p) k = wired-other space room h l p (wires (out h l p)) (wires-other (out h l p))
-opened-other space room h l (refused n at) k = k
+opened-other : (space room : ℕ) (h : Held) (p : Incoming) (x : Answer Packet) → Other x → Other (opened space room h p x)
+opened-other space room h p (given q) k = wired-other space room h p q (wires (out h (p .label) q)) (wires-other (out h (p .label) q))
+opened-other space room h p (refused n at) k = k
 
 taken-other : (space room : ℕ) (h : Held) (p : Incoming) → ahead h (p .label) ≡ true → Other (taken space room h p)
 unfolding taken
@@ -139,7 +139,7 @@ taken-other space room h p t =
     rw t
     (by-cond Other (eqb (length (p .payload)) 0 || ltb payloadLimit (length (p .payload))) _ _
     (λ u. λ e. omega arith)
-    (λ u. opened-other space room h (p .label) (packetOf (p .payload)) (packet-other (p .payload) (payloadElements (p .payload)) (payload-other (p .payload)))))
+    (λ u. opened-other space room h p (packetOf (p .payload)) (packet-other (p .payload) (payloadElements (p .payload)) (payload-other (p .payload)))))
 
 module _ (i : Inputs) where
   after-other : (x : Answer Taken) → Other x → Other (answered (after x (i .store) (i .output) .answer))

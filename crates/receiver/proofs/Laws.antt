@@ -25,7 +25,7 @@ use Rattle.handing.specs.Handing.{fragmentLimit, wires}
 use Rattle.handing.proofs.Cursors.{payload-some, payload-small}
 use Rattle.handing.proofs.Lists.{front-length}
 use Rattle.receiver.specs.Packet.{Packet, packetBy, packetOf}
-use Rattle.receiver.specs.Joining.{Label, Held, fresh, ahead, next, out}
+use Rattle.receiver.specs.Joining.{Held, fresh, ahead, next, out}
 use Rattle.receiver.specs.Call.{Incoming, Taken, tooLong, fitted, leadsTo, wired, opened, taken, heldIn, stateOf, Inputs, outcome, after, answered, received}
 use Rattle.receiver.specs.declared.Received.{Received}
 use Rattle.receiver.proofs.Outcomes.{not-long, long-not, outcome-held}
@@ -42,7 +42,7 @@ module _ (space room : ℕ) (h : Held) (p : Incoming) (q : Packet) (read : packe
       go (refused n at) e f = let z : _≡_ {A = ℕ} 0 1 = cc in absurd (omega arith)
 
   by-ahead : taken space room h p
-      ≡ cond (ahead h (p .label)) (wired space room h (p .label) q (wires (out h (p .label) q))) (refused 14 0)
+      ≡ cond (ahead h (p .label)) (wired space room h p q (wires (out h (p .label) q))) (refused 14 0)
   unfolding taken
   by-ahead =
       rw (ne-eqb (length (p .payload)) 0 (λ e. omega (arith, fits)), le-ltb payloadLimit (length (p .payload)) (fits .1), read)
@@ -52,8 +52,8 @@ module _ (space room : ℕ) (h : Held) (p : Incoming) (q : Packet) (read : packe
 
   pub taken-all : ahead h (p .label) ≡ true → (bytes : List ℕ) → wires (out h (p .label) q) ≡ given bytes
       → length (next h (p .label) q .fragment) ≤ space → length (next h (p .label) q .fragment) ≤ fragmentLimit → length bytes ≤ room
-      → taken space room h p ≡ given (leadsTo h (p .label) q bytes)
-  taken-all t bytes w a b c = by-ahead ∙ rw (t, w) (fitted-all space room (leadsTo h (p .label) q bytes) (not-long a b) c)
+      → taken space room h p ≡ given (leadsTo h p q bytes)
+  taken-all t bytes w a b c = by-ahead ∙ rw (t, w) (fitted-all space room (leadsTo h p q bytes) (not-long a b) c)
 
 -- ---- what is taken has room
 
@@ -67,20 +67,20 @@ fitted-fits space room t =
     (λ e. tt)
     (λ e. let f = long-not e in by-cond (Fits space room) (ltb room (length (t .bytes))) _ _ (λ g. tt) (λ g. (f .0, f .1, ltb-false room (length (t .bytes)) g)))
 
-wired-fits : (space room : ℕ) (h : Held) (l : Label) (p : Packet) (w : Answer (List ℕ)) → Fits space room (wired space room h l p w)
-wired-fits space room h l p (given bytes) = fitted-fits space room (leadsTo h l p bytes)
-wired-fits space room h l p (refused n at) = tt
+wired-fits : (space room : ℕ) (h : Held) (p : Incoming) (q : Packet) (w : Answer (List ℕ)) → Fits space room (wired space room h p q w)
+wired-fits space room h p q (given bytes) = fitted-fits space room (leadsTo h p q bytes)
+wired-fits space room h p q (refused n at) = tt
 
-opened-fits : (space room : ℕ) (h : Held) (l : Label) (x : Answer Packet) → Fits space room (opened space room h l x)
-opened-fits space room h l (given p) = wired-fits space room h l p (wires (out h l p))
-opened-fits space room h l (refused n at) = tt
+opened-fits : (space room : ℕ) (h : Held) (p : Incoming) (x : Answer Packet) → Fits space room (opened space room h p x)
+opened-fits space room h p (given q) = wired-fits space room h p q (wires (out h (p .label) q))
+opened-fits space room h p (refused n at) = tt
 
 taken-room : (space room : ℕ) (h : Held) (p : Incoming) → Fits space room (taken space room h p)
 unfolding taken
 taken-room space room h p =
     by-cond (Fits space room) (eqb (length (p .payload)) 0 || ltb payloadLimit (length (p .payload))) _ _
     (λ t. tt)
-    (λ t. by-cond (Fits space room) (ahead h (p .label)) _ _ (λ u. opened-fits space room h (p .label) (packetOf (p .payload))) (λ u. tt))
+    (λ t. by-cond (Fits space room) (ahead h (p .label)) _ _ (λ u. opened-fits space room h p (packetOf (p .payload))) (λ u. tt))
 
 pub taken-fits : (space room : ℕ) (h : Held) (p : Incoming) (t : Taken) → taken space room h p ≡ given t
     → (length (t .held .fragment) ≤ space) × (length (t .held .fragment) ≤ fragmentLimit) × (length (t .bytes) ≤ room)

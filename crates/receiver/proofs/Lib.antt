@@ -6,3 +6,4 @@ pub mod Outcomes
 pub mod Laws
 pub mod Behind
 pub mod Sizes
+pub mod Counts

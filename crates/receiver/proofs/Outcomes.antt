@@ -62,7 +62,7 @@ module _ (i : Inputs) where
 
       module _ (l : length (i .packet .payload) ≤ payloadLimit) (t : Bool) (e : t ≡ isAhead (i .state .begun) (i .state .last) (i .packet .label .number)) where
         outcome-by : outcome i
-            ≡ cond t (opened (length (i .store)) (length (i .output)) (heldIn (i .state) (i .store)) (i .packet .label) (packetOf (i .packet .payload))) (refused 14 0)
+            ≡ cond t (opened (length (i .store)) (length (i .output)) (heldIn (i .state) (i .store)) (i .packet) (packetOf (i .packet .payload))) (refused 14 0)
         unfolding taken
         outcome-by = outcome-held ∙ rw (ne-eqb (length (i .packet .payload)) 0 some, le-ltb payloadLimit (length (i .packet .payload)) l, e)
 
@@ -75,14 +75,14 @@ module _ (i : Inputs) where
         outcome-unread q n at w = outcome-by ∙ rw q (go (payloadElements (i .packet .payload)) w)
           where
             go : (x : Answer (List Part)) → refused n at ≡ walked 0 x
-                → opened (length (i .store)) (length (i .output)) (heldIn (i .state) (i .store)) (i .packet .label) (packetBy (i .packet .payload) x) ≡ refused n 0
+                → opened (length (i .store)) (length (i .output)) (heldIn (i .state) (i .store)) (i .packet) (packetBy (i .packet .payload) x) ≡ refused n 0
             go (given ps) e = let z : _≡_ {A = ℕ} 0 1 = cc in absurd (omega arith)
             go (refused m a) e = let f : m ≡ n = cc in ap (λ (x : ℕ). refused x 0) f
 
   -- ---- a packet that is ahead and has been read
 
   pub outcome-opened : {all : Walked} → Opened i all
-      → outcome i ≡ opened (length (i .store)) (length (i .output)) (heldIn (i .state) (i .store)) (i .packet .label) (packetOf (i .packet .payload))
+      → outcome i ≡ opened (length (i .store)) (length (i .output)) (heldIn (i .state) (i .store)) (i .packet) (packetOf (i .packet .payload))
   outcome-opened o =
       let w = o .read .whole in
       let some = payload-some (i .packet .payload) (partsOf (i .packet .payload)) w in

@@ -4,10 +4,11 @@ use Prim.Native.Nat.{ℕ, _+_, _%_}
 use mathlib.Core.Bool.{Bool, true, false}
 use mathlib.Core.List.{List, [], _∷_, _++_, map}
 use Rattle.base.specs.Answers.{Answer, given, refused}
+use Rattle.base.specs.Lists.{keep}
 use Rattle.base.specs.Streams.{streamFrom}
 use Rattle.leb128.specs.Field.{fieldIn, encodeIn}
 use Rattle.obu.specs.Front.{frontOf, headed}
-use Rattle.obu.specs.Wire.{wholeOf, wire}
+use Rattle.obu.specs.Wire.{wholeOf, wire, paddedSize}
 use Rattle.element.specs.Elements.{elementAt, exactly, counting, elementsOf, payloadElements}
 use Rattle.handing.specs.Handing.{wires}
 use Rattle.receiver.specs.Joining.{label, Held, fresh, isAhead, isInStep, follows, withFragment, lost, finished, left, handed, keptOpen, next, out}
@@ -117,13 +118,14 @@ good =
     ∷ inputs (at7 0) 8 (0x90 ∷ 0xa3 ∷ []) [] []
     ∷ []
 
--- this number taken, so many bytes open, so many handed out; whether a fragment and an element were thrown away
+-- this number taken, so many bytes open, so many handed out, nothing padded; whether a fragment and an element were thrown away
 got : ℕ → ℕ → ℕ → Bool → Bool → Answer Received
 got last size count fragment element =
     given
     (record {
       state = stateBy true (label last) size;
       bytes = count;
+      padded = record { lengths = 0; sizes = 0 };
       «fragment_lost» = fragment;
       «element_lost» = element;
     })
@@ -141,7 +143,7 @@ states :
     ∷ got 8 0 5 false false
     ∷ got 8 0 0 false true
     ∷ []
-unfolding good got at7 begin answers outcome taken payloadElements elementsOf counting streamFrom exactly elementAt fieldIn encodeIn isAhead isInStep follows withFragment lost finished left handed keptOpen next out wires wire wholeOf frontOf headed
+unfolding good got at7 begin answers outcome taken payloadElements elementsOf counting streamFrom exactly elementAt fieldIn encodeIn isAhead isInStep follows withFragment lost finished left handed keptOpen next out wires wire keep paddedSize wholeOf frontOf headed
 states = refl
 
 stores :
@@ -155,3 +157,30 @@ outputs :
     ≡ (1 ∷ []) ∷ [] ∷ [] ∷ (0x32 ∷ 2 ∷ 0xa1 ∷ 0xa2 ∷ 1 ∷ []) ∷ [] ∷ [] ∷ (0x32 ∷ 0 ∷ []) ∷ [] ∷ (0x32 ∷ 3 ∷ 0xa1 ∷ 0xa2 ∷ 0xa3 ∷ []) ∷ [] ∷ []
 unfolding good at7 begin outcome taken payloadElements elementsOf counting streamFrom exactly elementAt fieldIn encodeIn isAhead isInStep follows withFragment finished left handed keptOpen next out wires wire wholeOf frontOf headed
 outputs = refl
+
+-- ---- padded fields
+
+-- two length fields and the size field of the last element; the length field of an element thrown away, and of one left open; a size field
+-- cut over three packets, counted in the last; that of a dropped type; fields of one byte
+fields : List Inputs
+fields =
+    inputs begin 0 (0x30 ∷ 0x81 ∷ 0 ∷ 0x30 ∷ 0x81 ∷ 0 ∷ 0x30 ∷ 0x32 ∷ 0x80 ∷ 0 ∷ []) [] (1 ∷ 1 ∷ 1 ∷ 1 ∷ 1 ∷ 1 ∷ [])
+    ∷ inputs begin 0 (0xa0 ∷ 0x81 ∷ 0 ∷ 0xa1 ∷ 0x30 ∷ []) [] (1 ∷ 1 ∷ [])
+    ∷ inputs begin 0 (0x40 ∷ 0x81 ∷ 0 ∷ 0x30 ∷ []) (1 ∷ []) []
+    ∷ inputs begin 6 (0x50 ∷ 0x32 ∷ []) (1 ∷ 1 ∷ []) []
+    ∷ inputs (at7 1) 8 (0xd0 ∷ 0x80 ∷ []) (0x32 ∷ 1 ∷ []) []
+    ∷ inputs (at7 2) 8 (0x90 ∷ 0 ∷ []) (0x32 ∷ 0x80 ∷ []) (1 ∷ 1 ∷ [])
+    ∷ inputs begin 0 (0x10 ∷ 0x12 ∷ 0x80 ∷ 0 ∷ []) [] []
+    ∷ inputs begin 0 (0x20 ∷ 2 ∷ 0x32 ∷ 0 ∷ 0x32 ∷ 0 ∷ []) [] (1 ∷ 1 ∷ 1 ∷ 1 ∷ [])
+    ∷ []
+
+-- the bytes handed out, the padded length fields and the padded size fields
+counts : Answer Received → List ℕ
+counts (given r) = r .bytes ∷ r .padded .lengths ∷ r .padded .sizes ∷ []
+counts (refused n at) = []
+
+padded :
+    map counts (answers fields)
+    ≡ (6 ∷ 2 ∷ 1 ∷ []) ∷ (2 ∷ 1 ∷ 0 ∷ []) ∷ (0 ∷ 1 ∷ 0 ∷ []) ∷ (0 ∷ 0 ∷ 0 ∷ []) ∷ (0 ∷ 0 ∷ 0 ∷ []) ∷ (2 ∷ 0 ∷ 1 ∷ []) ∷ (0 ∷ 0 ∷ 1 ∷ []) ∷ (4 ∷ 0 ∷ 0 ∷ []) ∷ []
+unfolding fields counts at7 begin answers outcome taken payloadElements elementsOf counting streamFrom exactly elementAt fieldIn encodeIn isAhead isInStep follows withFragment lost finished left handed keptOpen next out wires wire keep paddedSize wholeOf frontOf headed
+padded = refl

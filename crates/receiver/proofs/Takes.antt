@@ -12,9 +12,9 @@ use Rattle.base.specs.Answers.{Answer, given, refused}
 use Rattle.base.specs.Lists.{replaced, front}
 use Rattle.base.proofs.Tests.{by-cond}
 use Rattle.element.specs.Header.{zBit, yBit}
-use Rattle.element.specs.Elements.{bytesOf}
+use Rattle.element.specs.Elements.{bytesOf, paddedBy, paddedLengths}
 use Rattle.element.specs.declared.Walked.{Walked}
-use Rattle.handing.specs.Handing.{fragmentLimit, wires}
+use Rattle.handing.specs.Handing.{fragmentLimit, wires, paddedSizes}
 use Rattle.handing.specs.Inside.{partsOf, led, between, Finishing}
 use Rattle.handing.specs.Paper.{fragmentOf}
 use Rattle.handing.specs.declared.Fragment.{Fragment}
@@ -22,7 +22,7 @@ use Rattle.handing.proofs.Across.{across-length}
 use Rattle.handing.proofs.Cursors.{elements-some}
 use Rattle.receiver.specs.Packet.{Packet, packetBy}
 use Rattle.receiver.specs.Joining.{Held, holding, follows, joinable, withFragment, lost, finished, left, handed, keptOpen, next, out}
-use Rattle.receiver.specs.Call.{Taken, tooLong, fitted, wired, opened, lastOf, heldIn, stateBy, Inputs, outcome, leaves, received}
+use Rattle.receiver.specs.Call.{Taken, tooLong, fitted, paddedIn, wired, opened, lastOf, heldIn, stateBy, Inputs, outcome, leaves, received}
 use Rattle.receiver.specs.Inside.{keptBytes, thrown, finishedEnd, leftOpen, Opened}
 use Rattle.receiver.proofs.Opens.{LeftOpen, left-is, read-count, read-first, joined-is, lost-is, finished-is}
 use Rattle.receiver.proofs.Outcomes.{long-not, leaves-refused, outcome-opened}
@@ -84,6 +84,7 @@ module _ {i : Inputs} {all : Walked} {z y : Bool} {k from to : ℕ} (s : Taking 
       record {
         held = holding (i .packet .label) (left y js);
         bytes = bytes;
+        padded = record { lengths = all .padded; sizes = paddedSizes (between store k payload from to) };
         lost = record { fragment = ltb k (i .state .«open»); element = ltb 0 from };
       }
 
@@ -117,16 +118,22 @@ module _ {i : Inputs} {all : Walked} {z y : Bool} {k from to : ℕ} (s : Taking 
   unfolding out handed
   taken-out = rw (s .opening .forward, taken-joined) taken-finished
 
+  taken-padded : paddedIn (i .packet) (out before (i .packet .label) apart) ≡ leads [] .padded
+  taken-padded =
+      let r = s .opening .read in
+      let l : paddedLengths payload ≡ all .padded = ap paddedBy (r .whole) ∙ sym (ap (λ (w : Walked). w .padded) (r .is)) in
+      ap₂ (λ (m n : ℕ). record { lengths = m; sizes = n }) l (ap paddedSizes taken-out)
+
   outcome-is : outcome i ≡ wiredBy (wires (between store k payload from to))
   outcome-is =
       outcome-opened i (s .opening)
-      ∙ ap (λ (a : Answer (List _)). opened space room before (i .packet .label) (packetBy payload a)) (s .opening .read .whole)
-      ∙ ap₂ (λ (a b : Bool). opened space room before (i .packet .label) (given (record { z = a; y = b; elements = es }))) (sym (s .z-is)) (sym (s .y-is))
+      ∙ ap (λ (a : Answer (List _)). opened space room before (i .packet) (packetBy payload a)) (s .opening .read .whole)
+      ∙ ap₂ (λ (a b : Bool). opened space room before (i .packet) (given (record { z = a; y = b; elements = es }))) (sym (s .z-is)) (sym (s .y-is))
       ∙ go (wires (out before (i .packet .label) apart))
       ∙ ap (λ (os : List (List ℕ)). wiredBy (wires os)) taken-out
     where
-      go : (a : Answer (List ℕ)) → wired space room before (i .packet .label) apart a ≡ wiredBy a
-      go (given bytes) = rw (taken-next, taken-lost)
+      go : (a : Answer (List ℕ)) → wired space room before (i .packet) apart a ≡ wiredBy a
+      go (given bytes) = rw (taken-next, taken-lost, taken-padded)
       go (refused n at) = refl
 
   pub kept-most : (k ≤ space) × (k ≤ fragmentLimit)
@@ -193,17 +200,18 @@ module _ {i : Inputs} {all : Walked} {z y : Bool} {k from to : ℕ} (s : Taking 
           ∙ ap (λ (x : ℕ). fragmentOf store payload r ++ drop x store) m
           ∙ ap (λ (x : List ℕ). front x store) (left-it .bytes store)
 
-      pub taking-all : length bytes ≤ room → {count : ℕ} {store′ output′ : List ℕ} → count ≡ length bytes
+      pub taking-all : length bytes ≤ room → {count sizes : ℕ} {store′ output′ : List ℕ} → count ≡ length bytes → sizes ≡ paddedSizes (between store k payload from to)
           → store′ ≡ replaced store (r .kept) (take (r .size) (drop (r .start) payload)) → output′ ≡ front bytes (i .output)
           → leaves
           (given
           (record {
             state = stateBy true (i .packet .label) (r .kept + r .size);
             bytes = count;
+            padded = record { lengths = all .padded; sizes = sizes };
             «fragment_lost» = ltb k (i .state .«open»);
             «element_lost» = ltb 0 from;
           }))
           store′ output′ ≡ received i
-      taking-all o {count} {store′} {output′} c f p =
+      taking-all o {count} {sizes} {store′} {output′} c d f p =
           let t : outcome i ≡ given (leads bytes) = outcome-given ∙ fitted-all space room (leads bytes) fits o in
-          rw (t, c, kept-stored f, p, fragment-length)
+          rw (t, c, d, kept-stored f, p, fragment-length)

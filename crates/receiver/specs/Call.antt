@@ -1,4 +1,4 @@
--- The receive call: its answer, and what it leaves in store and output (R12 to R20, C3, C8, C11, V12 to V14).
+-- The receive call: its answer, and what it leaves in store and output (R12 to R20, C3, C8, C11, V12 to V14, V18).
 use Prim.Native.Nat.{ℕ}
 use mathlib.Core.List.{List}
 use mathlib.Core.Bool.{Bool, cond, _||_}
@@ -6,10 +6,11 @@ use lib.ListN.{length, take}
 use lib.Dec.{ltb, eqb}
 use Rattle.base.specs.Answers.{Answer, given, refused}
 use Rattle.base.specs.Lists.{front}
-use Rattle.element.specs.Elements.{payloadLimit}
-use Rattle.handing.specs.Handing.{fragmentLimit, wires}
+use Rattle.element.specs.Elements.{payloadLimit, paddedLengths}
+use Rattle.handing.specs.Handing.{fragmentLimit, wires, paddedSizes}
 use Rattle.receiver.specs.Packet.{Packet, packetOf}
 use Rattle.receiver.specs.Joining.{Label, label, Held, Lost, ahead, lost, next, out}
+use Rattle.receiver.specs.declared.Padded.{Padded}
 use Rattle.receiver.specs.declared.State.{State}
 use Rattle.receiver.specs.declared.Received.{Received}
 
@@ -20,10 +21,11 @@ pub record Incoming : Type 0 where
   pub label : Label
   pub payload : List ℕ
 
--- what it leads to if it is taken: what is then held, the bytes handed out, and what was thrown away
+-- what it leads to if it is taken: what is then held, the bytes handed out, its padded fields, and what was thrown away
 pub record Taken : Type 0 where
   pub held : Held
   pub bytes : List ℕ
+  pub padded : Padded
   pub lost : Lost
 
 -- so many open bytes are more than the space of the store, or than a fragment may have (L4)
@@ -37,26 +39,36 @@ fitted space room t =
     (refused 19 0)
     (cond (ltb room (length (t .bytes))) (refused 20 0) (given t))
 
--- the packet taken apart, where these bytes go out for the OBUs that it finishes
-abbrev pub leadsTo : Held → Label → Packet → List ℕ → Taken
-leadsTo h l p bytes = record { held = next h l p; bytes = bytes; lost = lost h l p }
+-- V18: the padded length fields of all its elements, and the padded size fields of the OBUs that it finishes
+abbrev pub paddedIn : Incoming → List (List ℕ) → Padded
+paddedIn p finished = record { lengths = paddedLengths (p .payload); sizes = paddedSizes finished }
+
+-- a packet, taken apart as q, where these bytes go out for the OBUs that it finishes
+abbrev pub leadsTo : Held → Incoming → Packet → List ℕ → Taken
+leadsTo h p q bytes =
+    record {
+      held = next h (p .label) q;
+      bytes = bytes;
+      padded = paddedIn p (out h (p .label) q);
+      lost = lost h (p .label) q;
+    }
 
 -- R18, then these
-abbrev pub wired : ℕ → ℕ → Held → Label → Packet → Answer (List ℕ) → Answer Taken
-wired space room h l p (given bytes) = fitted space room (leadsTo h l p bytes)
-wired space room h l p (refused n at) = refused n at
+abbrev pub wired : ℕ → ℕ → Held → Incoming → Packet → Answer (List ℕ) → Answer Taken
+wired space room h p q (given bytes) = fitted space room (leadsTo h p q bytes)
+wired space room h p q (refused n at) = refused n at
 
 -- R15 to R17, then these
-abbrev pub opened : ℕ → ℕ → Held → Label → Answer Packet → Answer Taken
-opened space room h l (given p) = wired space room h l p (wires (out h l p))
-opened space room h l (refused n at) = refused n at
+abbrev pub opened : ℕ → ℕ → Held → Incoming → Answer Packet → Answer Taken
+opened space room h p (given q) = wired space room h p q (wires (out h (p .label) q))
+opened space room h p (refused n at) = refused n at
 
 -- R13, then R14, then the rest
 unfoldable pub taken : ℕ → ℕ → Held → Incoming → Answer Taken
 taken space room h p =
     cond (eqb (length (p .payload)) 0 || ltb payloadLimit (length (p .payload)))
     (refused 13 0)
-    (cond (ahead h (p .label)) (opened space room h (p .label) (packetOf (p .payload))) (refused 14 0))
+    (cond (ahead h (p .label)) (opened space room h p (packetOf (p .payload))) (refused 14 0))
 
 -- ---- state and store (V1)
 
@@ -117,12 +129,13 @@ after (refused n at) store output = leaves (refused n at) store output
 abbrev pub afterTaking : Inputs → After (Answer Taken)
 afterTaking i = after (outcome i) (i .store) (i .output)
 
--- the new state, the number of bytes handed out and what was thrown away
+-- the new state, the number of bytes handed out, the padded fields and what was thrown away
 abbrev pub receivedOf : Taken → Received
 receivedOf t =
     record {
       state = stateOf (t .held);
       bytes = length (t .bytes);
+      padded = t .padded;
       «fragment_lost» = t .lost .fragment;
       «element_lost» = t .lost .element;
     }

@@ -1,4 +1,4 @@
-// The receiver (V1 to V17): one packet taken, its finished OBUs handed out, the fragment that it leaves open kept in the store.
+// The receiver (V1 to V18): one packet taken, its finished OBUs handed out, the fragment that it leaves open kept in the store.
 use base::Refusal;
 use element::Walk;
 use element::Walked;
@@ -30,10 +30,18 @@ pub const FRESH: State = State {
     open: 0,
 };
 
-// What a packet that is taken gives: the new state, how many bytes go out, and whether an open fragment, and whether an element, was thrown away.
+// The padded fields of a packet: the length fields of its elements, thrown away or not, and the size fields of the OBUs that it finishes.
+pub struct Padded {
+    pub lengths: usize,
+    pub sizes: usize,
+}
+
+// What a packet that is taken gives: the new state, how many bytes go out, its padded fields, and whether an open fragment, and whether an
+// element, was thrown away.
 pub struct Received {
     pub state: State,
     pub bytes: usize,
+    pub padded: Padded,
     pub fragment_lost: bool,
     pub element_lost: bool,
 }
@@ -193,6 +201,10 @@ fn take_packet(
                     open: size,
                 },
                 bytes: bytes,
+                padded: Padded {
+                    lengths: all.padded,
+                    sizes: handed.padded,
+                },
                 // joined is all that was open, or nothing
                 fragment_lost: joined < state.open,
                 element_lost: from > 0,
@@ -221,7 +233,7 @@ pub fn receive(
         return Receipt::Refused(Refusal::PayloadLength);
     }
     if is_ahead(state.begun, state.last, number) {
-        match element::walk_elements(payload, 0) {
+        match element::walk_within(payload, 0) {
             Walk::Whole(all) => take_packet(state, number, payload, all, store, out),
             Walk::Refused { refusal, at: _ } => Receipt::Refused(refusal),
         }

@@ -1,5 +1,6 @@
 // The loops of the programs: they carry out what a step orders, and decide nothing (G1, G7, G14).
 pub mod pack;
+pub mod padded;
 pub mod planlist;
 pub mod unpack;
 

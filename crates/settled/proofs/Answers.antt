@@ -5,8 +5,8 @@ use Prim.Native.Nat.{ℕ}
 use Rattle.base.specs.Answers.{Answer, given, refused}
 use Rattle.base.specs.declared.Refusal.{Refusal}
 use Rattle.base.proofs.Refusals.{named, number-names, tells-apart}
-use Rattle.leb128.specs.Field.{Field, sized, unreadable}
 use Rattle.leb128.specs.Paper as leb128
+use Rattle.leb128.specs.declared.SizeField.{SizeField}
 use Rattle.leb128.specs.declared.SizeRead.{SizeRead}
 use Rattle.leb128.specs.declared.SizeRead.the-variants as size
 use Rattle.obu.specs.Front as front
@@ -15,6 +15,8 @@ use Rattle.obu.specs.declared.ObuRead.{ObuRead}
 use Rattle.obu.specs.declared.ObuRead.the-variants as read
 use Rattle.obu.specs.declared.ObuList.{ObuList}
 use Rattle.obu.specs.declared.ObuList.the-variants as list
+use Rattle.obu.specs.declared.compare.SameList.{SameList}
+use Rattle.obu.specs.declared.compare.SameList.the-variants as same
 use Rattle.packetizer.specs.Paper as packetizer
 use Rattle.packetizer.specs.declared.PlanAnswer.{PlanAnswer}
 use Rattle.packetizer.specs.declared.PlanAnswer.the-variants as plan
@@ -52,9 +54,8 @@ back f g (refused n at) = g (named n) at
 
 -- ---- size fields
 
-sizeBack : Field → SizeRead
-sizeBack (sized v n) = size.Read (record { value = v; used = n })
-sizeBack (unreadable n) = size.Refused (named n)
+sizeBack : Answer SizeField → SizeRead
+sizeBack = back size.Read (λ r at. size.Refused r)
 
 pub size-one : (a b : SizeRead) → leb128.paper a ≡ leb128.paper b → a ≡ b
 unfolding sizeBack
@@ -95,6 +96,13 @@ list-one = tells-apart obu.paperList (back list.Listed list.Refused) undone
     undone : (r : ObuList) → back list.Listed list.Refused (obu.paperList r) ≡ r
     undone (list.Listed l) = refl
     undone (list.Refused r at) = ap (λ (q : Refusal). list.Refused q at) (number-names r)
+
+pub same-one : (a b : SameList) → obu.paperSame a ≡ obu.paperSame b → a ≡ b
+same-one = tells-apart obu.paperSame (back same.Same same.Refused) undone
+  where
+    undone : (r : SameList) → back same.Same same.Refused (obu.paperSame r) ≡ r
+    undone (same.Same k) = refl
+    undone (same.Refused r at) = ap (λ (q : Refusal). same.Refused q at) (number-names r)
 
 -- ---- plan, header, packets written
 

@@ -41,7 +41,7 @@ use Rattle.listing.proofs.start as planlistStart
 use Rattle.unpacking.proofs.start as unpackStart
 use Rattle.settled.specs.Settled.{Settled, SettledBy, SamePart}
 use Rattle.settled.proofs.Law.{meet, settles}
-use Rattle.settled.proofs.Answers.{size-one, list-one, plan-one, header-one, write-one, walk-one, receipt-one, head-one, fields-one, found-one}
+use Rattle.settled.proofs.Answers.{size-one, list-one, same-one, plan-one, header-one, write-one, walk-one, receipt-one, head-one, fields-one, found-one}
 
 pub read-leb128 : Settled readLeb128.ended (λ M. readLeb128.clauses)
 read-leb128 =
@@ -55,7 +55,7 @@ parse-obus =
     ))
 
 pub same-list : Settled sameList.ended (λ M. sameList.clauses)
-same-list = settles sameList.ended _ _ _ (λ M 𝓤 H A mem run κs a. refl) (λ κs a x y p q. (list-one _ _ (meet p q), refl))
+same-list = settles sameList.ended _ _ _ (λ M 𝓤 H A mem run κs a. refl) (λ κs a x y p q. (same-one _ _ (meet p q), refl))
 
 pub plan-unit : Settled planUnit.ended (λ M. planUnit.clauses)
 plan-unit =

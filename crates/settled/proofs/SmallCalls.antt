@@ -3,6 +3,7 @@ use mathlib.Core.Path.{refl}
 use Rattle.base.proofs.number as number
 use Rattle.base.proofs.smaller as smaller
 use Rattle.base.proofs.same_numbers as sameNumbers
+use Rattle.leb128.proofs.is_padded as isPadded
 use Rattle.leb128.proofs.leb128_size as leb128Size
 use Rattle.obu.proofs.obu_type as obuType
 use Rattle.obu.proofs.obu_has_extension as obuHasExtension
@@ -32,6 +33,9 @@ same-numbers = settles sameNumbers.ended _ _ _ (λ M 𝓤 H A mem run κs a. ref
 
 pub leb128-size : Settled leb128Size.ended (λ M. leb128Size.clauses)
 leb128-size = settles leb128Size.ended _ _ _ (λ M 𝓤 H A mem run κs a. refl) (λ κs a x y p q. (meet p q, refl))
+
+pub is-padded : Settled isPadded.ended (λ M. isPadded.clauses)
+is-padded = settles isPadded.ended _ _ _ (λ M 𝓤 H A mem run κs a. refl) (λ κs a x y p q. (meet p q, refl))
 
 -- ---- the header byte of an OBU
 

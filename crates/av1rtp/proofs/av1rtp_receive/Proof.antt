@@ -1,10 +1,12 @@
-use mathlib.Core.Path.{sym, ap, _∙_}
-use Rattle.base.specs.Answers.{Answer}
+use mathlib.Core.Path.{_≡_, sym, ap, _∙_}
+use native.Mathlib.Omega.{arith}
+use Rattle.base.specs.Answers.{Answer, given}
 use Rattle.receiver.specs.Paper.{paper}
-use Rattle.receiver.specs.Call.{inputs, After, received}
+use Rattle.receiver.specs.Call.{Inputs, inputs, After, received}
 use Rattle.receiver.specs.declared.State.{State}
 use Rattle.receiver.specs.declared.Received.{Received}
-use Rattle.av1rtp.specs.Calls.{stateAfter, receivedWords}
+use Rattle.receiver.proofs.Counts.{padded-within}
+use Rattle.av1rtp.specs.Calls.{stateIn, stateAfter, receivedWords}
 use Rattle.av1rtp.proofs.Words.{gave, declined}
 use borrow.Author.Needs.{needs}
 use Rattle.av1rtp.proofs.av1rtp_receive.Statement.{statement}
@@ -23,7 +25,7 @@ at-state c = c .before .before .before
 
 -- the packet is taken, and the state put
 abbrev at-put : tie.After-give → tie.After-put-state
-at-put c = c .before .before
+at-put c = c .before .before .before .before
 
 abbrev at-received : tie.After-put-state → tie.After-received
 at-received c = c .before .before .before .before
@@ -31,6 +33,23 @@ at-received c = c .before .before .before .before
 -- it is refused
 abbrev at-refusal : tie.After-refuse → tie.After-refusal
 at-refusal c = c .before .before .before
+
+-- ---- what they say
+
+-- what the call within is given
+abbrev asked : tie.After-receive → Inputs
+asked e = let a = at-start (at-state e) .args in inputs (stateIn (a .state .now)) (a .number) (a .payload .now) (a .store .now) (a .out .now)
+
+-- its answer, for a packet that is taken
+taken : (s : tie.After-received) → given (s .received .given .0 .0) ≡ received (asked (at-receive (s .before .before))) .answer
+taken s =
+    let e = at-receive (s .before .before) in
+    let a = at-start (at-state e) .args in
+    sym (ap paper (s .received .given .1))
+    ∙ ap (λ (x : After (Answer Received)). x .answer) (e .receive .ensures)
+    ∙ ap (λ (x : State). received (inputs x (a .number) (a .payload .now) (a .store .now) (a .out .now)) .answer) (at-state e .state-in .ensures)
+
+-- ---- the needs
 
 element-copy-out-state-in : tie.Need-element-copy-out-state-in
 element-copy-out-state-in c = search needs
@@ -53,6 +72,11 @@ enum-known-received c = search needs
 put-state-requires : tie.Need-put-state-requires
 put-state-requires c κs = search needs
 
+add-give : tie.Need-add-give
+add-give c =
+    let s = at-received (c .before .before .before) in
+    omega (arith, padded-within (asked (at-receive (s .before .before))) (taken s))
+
 give-requires : tie.Need-give-requires
 give-requires c κs = search needs
 
@@ -74,7 +98,7 @@ returns c =
     let e = at-receive (s .before .before) in
     let a = at-start (at-state e) .args in
     let p = e .receive .ensures ∙ ap (λ (x : State). received (inputs x (a .number) (a .payload .now) (a .store .now) (a .out .now))) (at-state e .state-in .ensures) in
-    let q = sym (ap paper (s .received .given .1)) ∙ ap (λ (x : After (Answer Received)). x .answer) p in
+    let q = taken s in
     let t = gave receivedWords q (c .give .ensures) in
     record {
       number-is = t .0;
@@ -117,6 +141,7 @@ av1rtp-receive-spec =
     receive-requires
     enum-known-received
     put-state-requires
+    add-give
     give-requires
     enum-known-refusal
     refuse-requires

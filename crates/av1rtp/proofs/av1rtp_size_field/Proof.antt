@@ -1,7 +1,9 @@
 use mathlib.Core.Path.{sym, ap, _∙_}
+use Prim.Native.Nat.{ℕ}
+use mathlib.Core.List.{[], _∷_}
 use Rattle.leb128.specs.Paper.{paper}
-use Rattle.leb128.specs.declared.SizeRead.{SizeRead}
-use Rattle.av1rtp.specs.Calls.{fieldAnswer, fieldWords}
+use Rattle.av1rtp.specs.Calls.{fieldWords}
+use Rattle.base.proofs.Tests.{as-number}
 use Rattle.av1rtp.proofs.Words.{gave, declined}
 use borrow.Author.Needs.{needs}
 use Rattle.av1rtp.proofs.av1rtp_size_field.Statement.{statement}
@@ -16,6 +18,9 @@ enum-known-field c = search needs
 cast-give : tie.Need-cast-give
 cast-give c = search needs
 
+cast-give-2 : tie.Need-cast-give-2
+cast-give-2 c = search needs
+
 give-requires : tie.Need-give-requires
 give-requires c κs = search needs
 
@@ -27,13 +32,16 @@ refuse-requires c κs = search needs
 
 returns : tie.Need-returns
 returns c =
-    let s = c .before .before .before .before in
-    gave fieldWords (sym (ap (λ (r : SizeRead). fieldAnswer (paper r)) (s .field .given .1)) ∙ ap fieldAnswer (s .before .before .read-leb128 .ensures)) (c .give .ensures)
+    let s = c .before .before .before .before .before in
+    let f = s .field .given .0 .0 in
+    let g = c .give .ensures in
+    gave fieldWords (sym (ap paper (s .field .given .1)) ∙ s .before .before .read-leb128 .ensures)
+    (g .0, g .1 ∙ ap (λ (n : ℕ). 0 ∷ f .value ∷ f .used ∷ n ∷ []) (as-number (f .shortest)))
 
 returns-2 : tie.Need-returns-2
 returns-2 c =
     let s = c .before .before .before in
-    declined fieldWords (sym (ap (λ (r : SizeRead). fieldAnswer (paper r)) (s .refusal .given .1)) ∙ ap fieldAnswer (s .before .before .read-leb128 .ensures)) (c .refuse .ensures)
+    declined fieldWords (sym (ap paper (s .refusal .given .1)) ∙ s .before .before .read-leb128 .ensures) (c .refuse .ensures)
 
 pub av1rtp-size-field-spec : {M : Type 1} → statement M
 av1rtp-size-field-spec =
@@ -42,6 +50,7 @@ av1rtp-size-field-spec =
     read-leb128-requires
     enum-known-field
     cast-give
+    cast-give-2
     give-requires
     enum-known-refusal
     refuse-requires

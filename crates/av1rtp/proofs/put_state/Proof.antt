@@ -1,9 +1,8 @@
-use mathlib.Core.Path.{_≡_, refl, ap}
+use mathlib.Core.Path.{ap}
 use Prim.Native.Nat.{ℕ}
-use mathlib.Core.Bool.{Bool, true, false, cond}
 use mathlib.Core.List.{[], _∷_}
-use mir.Val.{boolByte}
 use borrow.Author.Needs.{needs}
+use Rattle.base.proofs.Tests.{as-number}
 use Rattle.av1rtp.proofs.put_state.Statement.{statement}
 use Rattle.av1rtp.proofs.put_state.Tie as tie
 
@@ -12,10 +11,6 @@ cast-t3 c = search needs
 
 cast-t4 : tie.Need-cast-t4
 cast-t4 c = search needs
-
-as-number : (t : Bool) → boolByte t ≡ cond t 1 0
-as-number true = refl
-as-number false = refl
 
 returns : tie.Need-returns
 returns c =

@@ -3,6 +3,7 @@ use Prim.Native.Nat.{_-_}
 use lib.ListN.{length, take, drop}
 use Rattle.leb128.specs.Field.{sized, unreadable, sizeField}
 use Rattle.leb128.specs.Paper.{paper}
+use Rattle.leb128.proofs.Padded.{read-says, unread-says}
 use Rattle.element.specs.Elements.{counted, elementAt}
 use Rattle.element.proofs.Reading.{by-field, field-inside, by-rest, field-zero, field-past, field-found, rest-none, rest-found}
 use borrow.Author.Needs.{needs}
@@ -14,7 +15,7 @@ read : (c : tie.After-struct-known) →
     let a = c .before .before .before .before .before .before .before .before .args in
     let s = c .before .before .size .given .0 .0 in
     sized (s .value) (s .used) ≡ sizeField (take (length (a .payload .now) - a .at) (drop (a .at) (a .payload .now)))
-read c = sym (ap paper (c .before .before .size .given .1)) ∙ c .before .before .before .before .read-leb128 .ensures
+read c = read-says _ (sym (ap paper (c .before .before .size .given .1)) ∙ c .before .before .before .before .read-leb128 .ensures)
 
 told : (c : tie.After-struct-known) →
     let a = c .before .before .before .before .before .before .before .before .args in
@@ -74,7 +75,7 @@ returns-4 : tie.Need-returns-4
 returns-4 c = sym (field-found _ _ _ _ (c .before .if2 .left) (c .if3 .left)) ∙ told (c .before .before)
 
 returns-5 : tie.Need-returns-5
-returns-5 c = by-field _ _ _ (unreadable _) (c .before .before .before .before .if1 .taken) (c .before .before .before .before .before .before .pre) (sym (ap paper (c .enum-told .given .1)) ∙ c .before .before .read-leb128 .ensures)
+returns-5 c = by-field _ _ _ (unreadable _) (c .before .before .before .before .if1 .taken) (c .before .before .before .before .before .before .pre) (unread-says _ (sym (ap paper (c .enum-told .given .1)) ∙ c .before .before .read-leb128 .ensures))
 
 returns-6 : tie.Need-returns-6
 returns-6 c = sym (rest-found _ _ (c .if4 .left)) ∙ by-rest _ _ _ (c .before .if1 .left)

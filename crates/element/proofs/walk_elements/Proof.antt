@@ -1,54 +1,21 @@
-use mathlib.Core.Path.{sym, ap, _∙_}
+use mathlib.Core.Path.{sym, ap}
+use native.Mathlib.Omega.{arith}
 use Rattle.element.specs.Paper.{walked}
-use Rattle.element.proofs.Laws.{payload-empty, payload-long, payload-fits, header-bad, header-good}
-use borrow.Author.Needs.{needs}
+use Rattle.element.proofs.Laws.{payload-empty, payload-long}
 use Rattle.element.proofs.walk_elements.Statement.{statement}
 use Rattle.element.proofs.walk_elements.Tie as tie
 
 returns : tie.Need-returns
-returns c = sym (ap (walked (c .before .before .args .k)) (payload-empty (c .before .before .args .payload .now) (c .if1 .taken)))
+returns c = let a = c .before .before .args in sym (ap (walked (a .k)) (payload-empty (a .payload .now) (c .if1 .taken)))
 
 returns-2 : tie.Need-returns-2
-returns-2 c = sym (ap (walked (c .before .before .before .args .k)) (payload-long (c .before .before .before .args .payload .now) (c .if2 .taken)))
+returns-2 c = let a = c .before .before .before .args in sym (ap (walked (a .k)) (payload-long (a .payload .now) (c .if2 .taken)))
 
-shared-slice-read-header : tie.Need-shared-slice-read-header
-shared-slice-read-header c = search needs
-
-new-with-continuation-requires : tie.Need-new-with-continuation-requires
-new-with-continuation-requires c κs = search needs
+walk-within-requires : tie.Need-walk-within-requires
+walk-within-requires c κs = (omega (arith, c .before .if1 .left), c .if2 .left)
 
 returns-3 : tie.Need-returns-3
-returns-3 c =
-    let a = c .before .before .before .before .before .before .args in
-    sym
-    (ap (walked (a .k))
-    (payload-fits (a .payload .now) (c .before .before .before .if2 .left)
-    ∙ header-bad (a .payload .now) (c .before .before .before .before .if1 .left) _ (c .before .new-with-continuation .ensures) (c .if3 .taken)))
-
-header-w-requires : tie.Need-header-w-requires
-header-w-requires c κs = search needs
-
-walk-by-w-requires : tie.Need-walk-by-w-requires
-walk-by-w-requires c κs = search needs
-
-returns-4 : tie.Need-returns-4
-returns-4 c =
-    let a = c .before .before .before .before .before .before .before .before .args in
-    c .walk-by-w .ensures
-    ∙ sym
-    (ap (walked (a .k))
-    (payload-fits (a .payload .now) (c .before .before .before .before .before .if2 .left)
-    ∙ header-good (a .payload .now) (c .before .before .before .before .before .before .if1 .left) _ (c .before .before .before .new-with-continuation .ensures) (c .before .before .if3 .left) _ (c .before .header-w .ensures)))
+returns-3 c = c .walk-within .ensures
 
 pub walk-elements-spec : {M : Type 1} → statement M
-walk-elements-spec =
-    tie.close
-    (tie.spec
-    returns
-    returns-2
-    shared-slice-read-header
-    new-with-continuation-requires
-    returns-3
-    header-w-requires
-    walk-by-w-requires
-    returns-4)
+walk-elements-spec = tie.close (tie.spec returns returns-2 walk-within-requires returns-3)

@@ -1,18 +1,22 @@
-use mathlib.Core.Path.{_≡_, sym, ap, subst, _∙_}
+use mathlib.Core.Path.{_≡_, sym, ap, ap₂, subst, _∙_}
 use Prim.Native.Nat.{ℕ, _+_, _<_}
 use native.Mathlib.Omega.{arith}
 use mathlib.Core.List.{List}
+use mathlib.Core.Bool.{cond}
 use lib.ListN.{length, drop}
+use lib.Dec.{ltb}
+use mir.Val.{boolByte}
 use borrow.Author.Needs.{needs}
 use Rattle.base.specs.Answers.{given}
+use Rattle.base.proofs.Tests.{as-number}
 use Rattle.obu.specs.Header.{typeOf, drops}
 use Rattle.obu.specs.Front.{Front, startOf, spanOf}
-use Rattle.obu.specs.Wire.{wholeOf, framed, wire}
+use Rattle.obu.specs.Wire.{wholeOf, framed, wire, paddedSize}
 use Rattle.obu.specs.Paper.{paperHead, paperWhole}
 use Rattle.handing.specs.Inside.{RoomAt}
 use Rattle.handing.specs.Paper.{fragmentOf}
 use Rattle.handing.proofs.Across.{across-length}
-use Rattle.handing.proofs.Framing.{out-length, field-most, whole-spans, wire-dropped, wire-kept, wire-broken, finished-none, finished-bad, finished-some}
+use Rattle.handing.proofs.Framing.{out-length, field-most, whole-spans, wire-dropped, wire-kept, wire-broken, size-padded, finished-none, finished-bad, finished-some}
 use Rattle.handing.proofs.finish_obu.Statement.{statement}
 use Rattle.handing.proofs.finish_obu.Tie as tie
 
@@ -24,17 +28,17 @@ at-start c = c .before .before .before .before
 abbrev at-judge : tie.After-head → tie.After-judge
 at-judge c = c .before .before
 
-abbrev at-head : tie.After-should-ignore-obu-type → tie.After-head
-at-head c = c .before .before .before
+abbrev at-field : tie.After-should-ignore-obu-type → tie.After-leb128-size
+at-field c = c .before .before .before
 
-abbrev at-put : tie.After-struct-known → tie.After-put-obu
+abbrev at-head : tie.After-should-ignore-obu-type → tie.After-head
+at-head c = at-field c .before .before .before
+
+abbrev at-put : tie.After-header-size → tie.After-put-obu
 at-put c = c .before .before .before
 
 abbrev at-kept : tie.After-put-obu → tie.Else1
 at-kept c = c .before .before
-
-abbrev at-field : tie.After-header-size → tie.After-leb128-size
-at-field c = c .before
 
 -- ---- what they say
 
@@ -71,6 +75,15 @@ kept c =
     let h = at-head (c .before) in
     wire-kept (allOf (start h)) (front h) (found h) (dropped (c .before) ∙ c .if1 .left)
 
+-- its size field is padded, or not
+sized : (c : tie.After-should-ignore-obu-type) →
+    let h = at-head c in
+    boolByte (ltb (at-field c .leb128-size .result) (front h .field)) ≡ cond (paddedSize (allOf (start h))) 1 0
+sized c =
+    let h = at-head c in
+    let n = at-field c .leb128-size in
+    size-padded (allOf (start h)) (front h) (found h) (as-number (ltb (n .result) (front h .field)) ∙ ap (λ (m : ℕ). cond (ltb m (front h .field)) 1 0) (n .ensures))
+
 -- ---- the needs
 
 judge-requires : tie.Need-judge-requires
@@ -82,6 +95,15 @@ enum-known-refusal c = search needs
 enum-known-head : tie.Need-enum-known-head
 enum-known-head c = search needs
 
+cast-leb128-size : tie.Need-cast-leb128-size
+cast-leb128-size c = omega (arith, small (c .before .before))
+
+leb128-size-requires : tie.Need-leb128-size-requires
+leb128-size-requires c κs = search needs
+
+cast-padded : tie.Need-cast-padded
+cast-padded c = search needs
+
 obu-type-requires : tie.Need-obu-type-requires
 obu-type-requires c κs = search needs
 
@@ -92,7 +114,7 @@ returns : tie.Need-returns
 returns c =
     let h = at-head (c .before) in
     let a = start h .args in
-    finished-none _ (a .out .now) (a .at) (a .write) (wire-dropped (allOf (start h)) (front h) (found h) (dropped (c .before) ∙ c .if1 .taken))
+    finished-none _ (a .out .now) (a .at) (a .write) (wire-dropped (allOf (start h)) (front h) (found h) (dropped (c .before) ∙ c .if1 .taken)) (sized (c .before))
 
 put-obu-requires : tie.Need-put-obu-requires
 put-obu-requires c κs =
@@ -102,25 +124,20 @@ put-obu-requires c κs =
       λ w. subst (RoomAt (length (s .args .out .now)) (s .args .at)) (kept (c .before)) (s .pre .1 w),
     )
 
-cast-leb128-size : tie.Need-cast-leb128-size
-cast-leb128-size c = omega (arith, small (at-head (at-kept (at-put c) .before)))
-
-leb128-size-requires : tie.Need-leb128-size-requires
-leb128-size-requires c κs = search needs
-
 header-size-requires : tie.Need-header-size-requires
 header-size-requires c κs = search needs
 
 add-bytes : tie.Need-add-bytes
 add-bytes c =
-    let h = at-head (at-kept (at-put (at-field c .before)) .before) in
-    omega (arith, c .header-size .ensures, at-field c .leb128-size .ensures, field-most (front h .payload) (omega (arith, small h)))
+    let k = at-kept (at-put c) .before in
+    let h = at-head k in
+    omega (arith, c .header-size .ensures, at-field k .leb128-size .ensures, field-most (front h .payload) (omega (arith, small h)))
 
 add-bytes-2 : tie.Need-add-bytes-2
 add-bytes-2 c =
-    let f = at-field (c .before) in
-    let h = at-head (at-kept (at-put (f .before)) .before) in
-    omega (arith, c .before .header-size .ensures, f .leb128-size .ensures, field-most (front h .payload) (omega (arith, small h)), small h)
+    let k = at-kept (at-put (c .before)) .before in
+    let h = at-head k in
+    omega (arith, c .before .header-size .ensures, at-field k .leb128-size .ensures, field-most (front h .payload) (omega (arith, small h)), small h)
 
 returns-2 : tie.Need-returns-2
 returns-2 c =
@@ -133,12 +150,13 @@ same-length c = search needs
 
 returns-3 : tie.Need-returns-3
 returns-3 c =
-    let f = at-field (c .before) in
-    let p = at-put (f .before) in
-    let h = at-head (at-kept p .before) in
+    let p = at-put (c .before) in
+    let k = at-kept p .before in
+    let h = at-head k in
     let a = start h .args in
     finished-some _ (a .out .now) (a .at) (a .write) (kept (at-kept p))
-    (ap (λ (n : ℕ). record { bytes = n }) (omega (arith, out-length (allOf (start h)) (front h) (spans h), c .before .header-size .ensures, f .leb128-size .ensures)))
+    (ap₂ (λ (n m : ℕ). record { bytes = n; padded = m })
+    (omega (arith, out-length (allOf (start h)) (front h) (spans h), c .before .header-size .ensures, at-field k .leb128-size .ensures)) (sized k))
     (p .put-obu .ensures)
 
 pub finish-obu-spec : {M : Type 1} → statement M
@@ -148,12 +166,13 @@ finish-obu-spec =
     judge-requires
     enum-known-refusal
     enum-known-head
+    cast-leb128-size
+    leb128-size-requires
+    cast-padded
     obu-type-requires
     should-ignore-obu-type-requires
     returns
     put-obu-requires
-    cast-leb128-size
-    leb128-size-requires
     header-size-requires
     add-bytes
     add-bytes-2

@@ -6,9 +6,10 @@ use mathlib.Core.Bool.{cond}
 use lib.ListN.{length, getD, take, drop, length-drop}
 use lib.Dec.{eqb}
 use Rattle.base.proofs.Lists.{part-from}
-use Rattle.leb128.specs.Field.{sizeField}
+use Rattle.leb128.specs.Field.{answerBy, sizeAnswer}
 use Rattle.leb128.specs.Paper.{paper}
 use Rattle.leb128.proofs.Reading.{size-within}
+use Rattle.leb128.proofs.Padded.{read-says, unread-says}
 use Rattle.obu.specs.Header.{extensionBit}
 use Rattle.obu.specs.Front.{headBytes, headed, frontOf}
 use Rattle.obu.proofs.Fronts.{same-first, same-field, front-3, front-headed, front-4, front-rest, front-in, front-past, front-bad}
@@ -33,14 +34,14 @@ left c all l = length-drop (c .before .before .header-size .result) all ∙ ap (
 
 -- the size field that was read
 read :
-    (c : tie.After-read-leb128) → paper (c .read-leb128 .result) ≡ sizeField (drop (c .before .before .before .before .before .before .before .header-size .result) (c .before .before .before .before .before .before .before .before .before .before .args .bytes .now))
+    (c : tie.After-read-leb128) → paper (c .read-leb128 .result) ≡ sizeAnswer (drop (c .before .before .before .before .before .before .before .header-size .result) (c .before .before .before .before .before .before .before .before .before .before .args .bytes .now))
 read c =
-    c .read-leb128 .ensures ∙ ap sizeField (part-from (c .before .before .before .before .before .before .before .before .before .before .args .bytes .now) (c .before .before .before .before .before .before .before .header-size .result) (omega arith))
+    c .read-leb128 .ensures ∙ ap sizeAnswer (part-from (c .before .before .before .before .before .before .before .before .before .before .args .bytes .now) (c .before .before .before .before .before .before .before .header-size .result) (omega arith))
 
 field :
     (c : tie.After-read-leb128) (all : List ℕ) → take headBytes all ≡ take headBytes (c .before .before .before .before .before .before .before .before .before .before .args .bytes .now) →
-    paper (c .read-leb128 .result) ≡ sizeField (drop (c .before .before .before .before .before .before .before .header-size .result) all)
-field c all e = read c ∙ sym (same-field all (c .before .before .before .before .before .before .before .before .before .before .args .bytes .now) e (c .before .before .before .before .before .before .before .header-size .result) (omega arith))
+    paper (c .read-leb128 .result) ≡ sizeAnswer (drop (c .before .before .before .before .before .before .before .header-size .result) all)
+field c all e = read c ∙ ap answerBy (sym (same-field all (c .before .before .before .before .before .before .before .before .before .before .args .bytes .now) e (c .before .before .before .before .before .before .before .header-size .result) (omega arith)))
 
 -- from one place of the code back to another
 abbrev else3-of-read-leb128 : tie.After-read-leb128 → tie.Else3
@@ -102,7 +103,7 @@ sub-if4 c =
     let at-header-size = at-read-leb128 .before .before .before .before .before .before .before in
     let at-start = at-header-size .before .before .before in
     let v = c .before .before .size .given .0 .0 in
-    omega (arith, size-within _ (v .value) (v .used) (sym (ap paper (c .before .before .size .given .1)) ∙ read (at-read-leb128)), length-drop (at-header-size .header-size .result) (at-start .args .bytes .now))
+    omega (arith, size-within _ (v .value) (v .used) (read-says _ (sym (ap paper (c .before .before .size .given .1)) ∙ read (at-read-leb128))), length-drop (at-header-size .header-size .result) (at-start .args .bytes .now))
 
 enum-known-refusal : tie.Need-enum-known-refusal
 enum-known-refusal c = search needs
@@ -119,7 +120,7 @@ returns-3 c =
     λ all e l.
     let v = at-size .size .given .0 .0 in
     front-in all _ _ (at-header-size .header-size .result) _ (known (at-extension-byte) all e l) (left (at-extension-byte) all l) (sym (at-obu-has-size .obu-has-size .ensures) ∙ at-then2 .if2 .taken) (at-else3 .if3 .left) (v .value) (v .used)
-    (sym (ap paper (at-size .size .given .1)) ∙ field (at-read-leb128) all e) (c .if4 .taken)
+    (read-says _ (sym (ap paper (at-size .size .given .1)) ∙ field (at-read-leb128) all e)) (c .if4 .taken)
 
 returns-4 : tie.Need-returns-4
 returns-4 c =
@@ -133,7 +134,7 @@ returns-4 c =
     λ all e l.
     let v = at-size .size .given .0 .0 in
     front-past all _ _ (at-header-size .header-size .result) _ (known (at-extension-byte) all e l) (left (at-extension-byte) all l) (sym (at-obu-has-size .obu-has-size .ensures) ∙ at-then2 .if2 .taken) (at-else3 .if3 .left) (v .value) (v .used)
-    (sym (ap paper (at-size .size .given .1)) ∙ field (at-read-leb128) all e) (c .if4 .left)
+    (read-says _ (sym (ap paper (at-size .size .given .1)) ∙ field (at-read-leb128) all e)) (c .if4 .left)
 
 returns-5 : tie.Need-returns-5
 returns-5 c =
@@ -145,7 +146,7 @@ returns-5 c =
     let at-header-size = header-size-of-extension-byte at-extension-byte in
     λ all e l.
     front-bad all _ _ (at-header-size .header-size .result) _ (known (at-extension-byte) all e l) (left (at-extension-byte) all l) (sym (at-obu-has-size .obu-has-size .ensures) ∙ at-then2 .if2 .taken) (at-else3 .if3 .left) _
-    (sym (ap paper (c .before .refusal .given .1)) ∙ field (at-read-leb128) all e)
+    (unread-says _ (sym (ap paper (c .before .refusal .given .1)) ∙ field (at-read-leb128) all e))
 
 returns-6 : tie.Need-returns-6
 returns-6 c =

@@ -5,9 +5,9 @@ use mathlib.Core.List.{List}
 use lib.Seq.{length-take-le}
 use Rattle.base.specs.Answers.{given}
 use Rattle.obu.specs.Unit.{sameList}
-use Rattle.obu.specs.Paper.{paperList}
+use Rattle.obu.specs.Paper.{paperSame}
 use Rattle.packetizer.specs.Plan.{planOf}
-use Rattle.packetizer.specs.Call.{compared}
+use Rattle.packetizer.specs.Call.{samePackets}
 use Rattle.packetizer.proofs.Same.{SameObus, same-obus, same-sizes, same-count, same-comparable, same-1, same-answered}
 use borrow.Author.Needs.{needs}
 use Rattle.packetizer.proofs.same_plan.Statement.{statement}
@@ -34,10 +34,10 @@ comparing c = c .before .before
 
 told :
     (c : tie.After-known-told2) →
-    given (c .before .listed .given .0 .0) ≡ sameList (start (listing c) .args .unit .now) (start (listing c) .args .obus .now)
-told c = sym (ap paperList (c .before .listed .given .1)) ∙ listing c .same-list .ensures
+    given (c .before .kept .given .0 .0) ≡ sameList (start (listing c) .args .unit .now) (start (listing c) .args .obus .now)
+told c = sym (ap paperSame (c .before .kept .given .1)) ∙ listing c .same-list .ensures
 
-same : (c : tie.After-known-told2) → SameObus (start (listing c) .args .unit .now) (start (listing c) .args .obus .now) (c .before .listed .given .0 .0)
+same : (c : tie.After-known-told2) → SameObus (start (listing c) .args .unit .now) (start (listing c) .args .obus .now) (c .before .kept .given .0 .0)
 same c = same-obus (told c)
 
 returns : tie.Need-returns
@@ -51,8 +51,8 @@ same-list-requires c κs = search needs
 enum-known-refusal : tie.Need-enum-known-refusal
 enum-known-refusal c = search needs
 
-enum-known-listed : tie.Need-enum-known-listed
-enum-known-listed c = search needs
+enum-known-kept : tie.Need-enum-known-kept
+enum-known-kept c = search needs
 
 mul-own : tie.Need-mul-own
 mul-own c = omega (arith, same (c .before) .long)
@@ -67,7 +67,7 @@ returns-2 : tie.Need-returns-2
 returns-2 c =
     let l = refusing c in
     let a = start l .args in
-    same-answered (a .mtu) (a .unit .now) (a .obus .now) (a .plan .now) (most l .if1 .left) _ (sym (ap paperList (c .before .refusal .given .1)) ∙ l .same-list .ensures)
+    same-answered (a .mtu) (a .unit .now) (a .obus .now) (a .plan .now) (most l .if1 .left) _ (sym (ap paperSame (c .before .refusal .given .1)) ∙ l .same-list .ensures)
 
 returns-3 : tie.Need-returns-3
 returns-3 c =
@@ -75,7 +75,7 @@ returns-3 c =
     let l = listing k in
     let a = start l .args in
     c .same-packets .ensures
-    ∙ ap₂ (λ (sizes : List ℕ) (n : ℕ). compared (planOf (a .mtu) sizes) (a .plan .now) (given (record { obus = n }))) (same-sizes (same k)) (same-count (same k))
+    ∙ ap₂ (λ (sizes : List ℕ) (n : ℕ). samePackets (planOf (a .mtu) sizes) (a .plan .now) n) (same-sizes (same k)) (same-count (same k))
     ∙ same-answered (a .mtu) (a .unit .now) (a .obus .now) (a .plan .now) (most l .if1 .left) _ (told k)
 
 pub same-plan-spec : {M : Type 1} → statement M
@@ -85,7 +85,7 @@ same-plan-spec =
     returns
     same-list-requires
     enum-known-refusal
-    enum-known-listed
+    enum-known-kept
     mul-own
     slice-aggregate-same-packets
     same-packets-requires

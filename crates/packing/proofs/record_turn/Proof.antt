@@ -1,5 +1,5 @@
 use mathlib.Core.Path.{_≡_, sym, ap, _∙_}
-use Prim.Native.Nat.{ℕ, _*_}
+use Prim.Native.Nat.{ℕ, _+_, _*_}
 use native.Mathlib.Omega.{arith}
 use lib.ListN.{take}
 use lib.Seq.{length-take-le}
@@ -17,7 +17,7 @@ use Rattle.packing.specs.declared.Wait.the-variants as wait
 use Rattle.packing.specs.declared.Place.{Place}
 use Rattle.packing.specs.Pack.{nextNumber}
 use Rattle.packing.specs.Steps.{after, leftTold, Recordable}
-use Rattle.packing.proofs.Recording.{record-room, ready-next, record-is, ready-whole}
+use Rattle.packing.proofs.Recording.{record-room, ready-for, record-is, ready-whole}
 use Rattle.packing.proofs.Turning.{gives}
 use borrow.Author.Needs.{needs}
 use Rattle.packing.proofs.record_turn.Statement.{statement}
@@ -93,7 +93,7 @@ returns c =
     let put = record-is lent (unit-bytes s) more (width s) (a .place .number) _ _ (q .put-record .ensures) in (
       λ line. gives p there (ap (λ (o : Order). o .read) (c .ask .ensures)) (asked p _ _ 0 told there (c .ask .ensures) (put .0) (put .1) (omega arith)),
       put .2 ∙ ap (λ (t : Told Place). front (t .written) (a .written .now)) (sym told),
-      ready-whole (ready-next (lent .ready)),
+      ready-whole (ready-for (a .progress .packet + 1) (lent .ready)),
     )
 
 pub record-turn-spec : {M : Type 1} → statement M

@@ -18,11 +18,11 @@ abbrev at-state : tie.Else3 → tie.Else1
 at-state c = c .before .before
 
 -- the payload has a lawful length
-abbrev at-length : tie.After-walk-elements → tie.Else3
+abbrev at-length : tie.After-walk-within → tie.Else3
 at-length c = c .before .before .before
 
 -- the elements were walked over
-abbrev at-walk : tie.After-all → tie.After-walk-elements
+abbrev at-walk : tie.After-all → tie.After-walk-within
 at-walk c = c .before .before
 
 abbrev at-all : tie.After-take-packet-arg2 → tie.After-all
@@ -57,8 +57,8 @@ returns-3 c =
 is-ahead-requires : tie.Need-is-ahead-requires
 is-ahead-requires c κs = search needs
 
-walk-elements-requires : tie.Need-walk-elements-requires
-walk-elements-requires c κs = search needs
+walk-within-requires : tie.Need-walk-within-requires
+walk-within-requires c κs = search needs
 
 enum-known-all : tie.Need-enum-known-all
 enum-known-all c = search needs
@@ -71,7 +71,7 @@ take-packet-requires c κs =
     record {
       possible = possible e;
       forward = sym (walk .before .before .is-ahead .ensures) ∙ walk .before .if4 .taken;
-      read = walked-read (asked (e .before) .packet .payload) (sym (ap paperWalk (all .all .given .1)) ∙ walk .walk-elements .ensures);
+      read = walked-read (asked (e .before) .packet .payload) (sym (ap paperWalk (all .all .given .1)) ∙ walk .walk-within .ensures);
     }
 
 enum-known-refusal : tie.Need-enum-known-refusal
@@ -93,7 +93,7 @@ returns-5 c =
     let e = at-state l in
     leaves-refused (asked (e .before))
     (outcome-unread _ (possible e) (l .before .if2 .left) (l .if3 .left) _ (walk .before .before .is-ahead .ensures) (walk .before .if4 .taken) _ _
-    (sym (ap paperWalk (c .before .refusal .given .1)) ∙ walk .walk-elements .ensures)) refl
+    (sym (ap paperWalk (c .before .refusal .given .1)) ∙ walk .walk-within .ensures)) refl
 
 returns-6 : tie.Need-returns-6
 returns-6 c =
@@ -110,7 +110,7 @@ receive-spec =
     returns-2
     returns-3
     is-ahead-requires
-    walk-elements-requires
+    walk-within-requires
     enum-known-all
     take-packet-requires
     enum-known-refusal

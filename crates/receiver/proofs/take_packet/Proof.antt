@@ -6,7 +6,7 @@ use mathlib.Core.List.{List}
 use lib.ListN.{length}
 use borrow.Author.Needs.{needs}
 use Rattle.base.specs.Answers.{Answer, given}
-use Rattle.handing.specs.Handing.{wires}
+use Rattle.handing.specs.Handing.{wires, paddedSizes}
 use Rattle.handing.specs.Inside.{putFirst, partsOf, between, RoomAt, Finishing}
 use Rattle.handing.specs.Paper.{paperHanded}
 use Rattle.handing.specs.declared.Handed.{Handed}
@@ -96,17 +96,23 @@ finishes : (c : tie.After-finished-end) →
     Finishing (a .payload .now) (c .before .first-cursor .result) (from c) (c .finished-end .result) (a .store .now) (joined c)
 finishes c = finishing (taking c) _ (c .before .first-cursor .ensures)
 
--- the OBUs handed out
-abbrev wired : tie.After-finished-end → Answer (List ℕ)
-wired c =
+-- the OBUs that are finished, and what goes out for them
+abbrev finishing-now : tie.After-finished-end → List (List ℕ)
+finishing-now c =
     let a = start (c .before) .args in
-    wires (between (a .store .now) (joined c) (a .payload .now) (from c) (c .finished-end .result))
+    between (a .store .now) (joined c) (a .payload .now) (from c) (c .finished-end .result)
+
+abbrev wired : tie.After-finished-end → Answer (List ℕ)
+wired c = wires (finishing-now c)
 
 -- the bytes of these, once they are counted; nothing is written yet
-counted : (c : tie.After-known-told2) → (b : List ℕ) × (wired (at-set (at-counted c)) ≡ given b) × (c .before .handed .given .0 .0 .bytes ≡ length b)
+counted : (c : tie.After-known-told2) →
+    let h = c .before .handed .given .0 .0 in
+    let s = at-set (at-counted c) in
+    (b : List ℕ) × (wired s ≡ given b) × (h .bytes ≡ length b) × (h .padded ≡ paddedSizes (finishing-now s))
 counted c =
     let b = counted-given _ (sym (ap paperHanded (c .before .handed .given .1)) ∙ at-counted c .count-out .ensures .0) in
-    (b .0, b .1, ap (λ (h : Handed). h .bytes) (b .2))
+    (b .0, b .1, ap (λ (h : Handed). h .bytes) (b .2), ap (λ (h : Handed). h .padded) (b .2))
 
 -- what is left open of the packet, and that it is not too long
 leaves-open : (c : tie.After-left-open) →
@@ -214,7 +220,7 @@ same-length-6 c = search needs
 returns-3 : tie.Need-returns-3
 returns-3 c =
     let k = at-refused c in
-    taking-broken (taking (at-set k)) (counted-refused _ (sym (ap paperHanded (c .before .refusal .given .1)) ∙ k .count-out .ensures .0)) (k .count-out .ensures .1)
+    taking-broken (taking (at-set k)) (counted-refused _ _ (sym (ap paperHanded (c .before .refusal .given .1)) ∙ k .count-out .ensures .0)) (k .count-out .ensures .1)
 
 same-length-7 : tie.Need-same-length-7
 same-length-7 c = search needs
@@ -230,7 +236,7 @@ returns-4 c =
     let b = counted (l .before) in
     let same = at-counted (l .before) .count-out .ensures .1 in
     taking-all (taking (at-set (at-counted (l .before)))) (b .1) (l .left-open .ensures) (fits (e .before))
-    (omega (arith, e .if2 .left, b .2, ap length same)) (b .2) (at-copied c .copy .ensures)
+    (omega (arith, e .if2 .left, b .2, ap length same)) (b .2) (b .3) (at-copied c .copy .ensures)
     (w .write-out .ensures ∙ ap₂ putFirst same (b .1))
 
 pub take-packet-spec : {M : Type 1} → statement M

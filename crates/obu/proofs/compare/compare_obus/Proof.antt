@@ -32,6 +32,9 @@ reading c = c .before .before .before
 abbrev looking : tie.After-should-ignore-obu-type Inv-loop μ-loop → tie.After-known-told2 Inv-loop μ-loop
 looking c = c .before .before .before
 
+abbrev spanning : tie.After-should-ignore-obu-type Inv-loop μ-loop → tie.After-span Inv-loop μ-loop
+spanning c = c .before .before
+
 abbrev kept : tie.After-record-at Inv-loop μ-loop → tie.After-should-ignore-obu-type Inv-loop μ-loop
 kept c = c .before .before
 
@@ -54,7 +57,7 @@ seen : (c : tie.After-known-told2 Inv-loop μ-loop) → found (front c) ≡ fron
 seen c = sym (ap paperRead (c .before .head .given .1)) ∙ read (reading c)
 
 spanned : (c : tie.After-known-told2 Inv-loop μ-loop) → round c .loop .at + spanOf (front c) ≤ length (start (round c) .args .unit .now)
-spanned c = spans _ _ _ _ _ _ _ (round c .loop .inv .walk) (front c) (seen c) (turn (reading c) .loop-test .taken)
+spanned c = spans (round c .loop .inv .walk) (seen c) (turn (reading c) .loop-test .taken)
 
 dropped : (c : tie.After-should-ignore-obu-type Inv-loop μ-loop) → drops (typeOf (front (looking c) .header)) ≡ c .should-ignore-obu-type .result
 dropped c = sym (c .should-ignore-obu-type .ensures ∙ ap drops (c .before .obu-type .ensures))
@@ -64,7 +67,7 @@ few : (c : tie.At-loop Inv-loop μ-loop) → c .loop .n ≤ length (start c .arg
 few c = omega (arith, c .loop .inv .walk .few, c .loop .inv .walk .inside)
 
 loop-holds : tie.Need-loop-holds Inv-loop μ-loop
-loop-holds c = compared-first _ _
+loop-holds c = compared-first
 
 sub-read-obu : tie.Need-sub-read-obu Inv-loop μ-loop
 sub-read-obu c = search needs
@@ -110,12 +113,12 @@ should-ignore-obu-type-requires : tie.Need-should-ignore-obu-type-requires Inv-l
 should-ignore-obu-type-requires c κs = search needs
 
 loop-less : tie.Need-loop-less Inv-loop μ-loop
-loop-less c = omega (arith, spanned (looking (c .before)), c .before .before .before .span .ensures)
+loop-less c = omega (arith, spanned (looking (c .before)), spanning (c .before) .span .ensures)
 
 loop-again : tie.Need-loop-again Inv-loop μ-loop
 loop-again c =
     let k = looking (c .before) in
-    rw (c .before .before .before .span .ensures)
+    rw (spanning (c .before) .span .ensures)
     (compared-drop (round k .loop .inv) (seen k) (turn (reading k) .loop-test .taken) (dropped (c .before) ∙ c .if1 .taken))
 
 record-at-requires : tie.Need-record-at-requires Inv-loop μ-loop
@@ -128,13 +131,13 @@ add-n : tie.Need-add-n Inv-loop μ-loop
 add-n c = let l = round (looking (kept (c .before))) in omega (arith, few l, start l .pre)
 
 loop-less-2 : tie.Need-loop-less-2 Inv-loop μ-loop
-loop-less-2 c = let t = kept (c .before) in omega (arith, spanned (looking t), t .before .before .span .ensures)
+loop-less-2 c = let t = kept (c .before) in omega (arith, spanned (looking t), spanning t .span .ensures)
 
 loop-again-2 : tie.Need-loop-again-2 Inv-loop μ-loop
 loop-again-2 c =
     let t = kept (c .before) in
     let k = looking t in
-    rw (t .before .before .span .ensures)
+    rw (spanning t .span .ensures)
     (compared-keep (round k .loop .inv) (seen k) (turn (reading k) .loop-test .taken) (dropped t ∙ c .before .before .if1 .left) (c .before .record-at .ensures) (c .same-obu .ensures))
 
 returns-2 : tie.Need-returns-2 Inv-loop μ-loop
