@@ -101,10 +101,29 @@ fn over_three() {
     case::end();
 }
 
+// Fields of two bytes that are the shortest form of what they state.
+fn long() {
+    // 00: W 0. 83 01 is 131: 32, 80 01 is 128, and 128 bytes A1. Each field has two bytes and needs them.
+    // Out: the element as it came. Padded: nothing.
+    let mut payload = [0xA1u8; 134];
+    payload[0] = 0x00;
+    payload[1] = 0x83;
+    payload[2] = 0x01;
+    payload[3] = 0x32;
+    payload[4] = 0x80;
+    payload[5] = 0x01;
+    let mut bytes = [0xA1u8; 131];
+    bytes[0] = 0x32;
+    bytes[1] = 0x80;
+    bytes[2] = 0x01;
+    case::whole(44, &payload, &bytes);
+}
+
 pub fn all() {
     both();
     dropped();
     thrown_away();
     left_open();
     over_three();
+    long();
 }
