@@ -4,3 +4,4 @@ pub mod Writing
 pub mod Theorems
 pub mod Refused
 pub mod Padded
+pub mod Rows
