@@ -1,4 +1,6 @@
 // The aggregation header of packet k (H1 to H8, R11): one rule, from flat lists of numbers and from slices of records.
+#![tactic(auto)]
+
 mod sequence;
 
 ghost use Rattle.std.specs.Prelude.{◌≡◌, ℕ, ◌*◌, false, cond, ◌&&◌, List, get_or, eqb};
@@ -17,7 +19,7 @@ use obu::Obu;
 use packetizer::{MAX_NUM_OBUS_TO_OMIT_SIZE, PacketMetadata};
 
 // What the OBUs up to one say of N.
-#[derive(Drop)]
+#[derive(Clone, Copy)]
 enum Seen {
     // no frame header yet, and no sequence header with a payload: the last has none, or there is none
     Nothing,
@@ -32,7 +34,7 @@ enum Seen {
 }
 
 // The answer of the header call.
-#[derive(Drop)]
+#[derive(Clone, Copy)]
 pub enum HeaderAnswer {
     Header(u8),
     Refused(Refusal),

@@ -1,5 +1,7 @@
 // What every other crate stands on: the refusals by name, with their numbers and words, numbers stored in a lent flat list or compared
 // with it, the smaller of two numbers, and bytes copied.
+#![tactic(auto)]
+
 pub mod big_endian;
 
 ghost use Rattle.std.specs.Prelude.{◌≡◌, ◌+◌, ◌≤◌, min, length, take, drop};
@@ -9,7 +11,7 @@ ghost use Rattle.base.specs.Refusals.{number_of};
 ghost use Rattle.base.specs.Words.{words_of, words_most};
 ghost use Rattle.base.specs.Inside.{line_from};
 
-#[derive(Drop)]
+#[derive(Clone, Copy)]
 pub enum Refusal {
     MtuOverLimit,
     UnitOverLimit,

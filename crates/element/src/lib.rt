@@ -1,4 +1,6 @@
 // The elements of a payload (E1 to E8, F6): the bits of its header, one element at a cursor, all of them, element k as a part.
+#![tactic(auto)]
+
 mod in_turn; // in_turn.rt: from element to element, by W
 
 ghost use Rattle.std.specs.Prelude.{◌≡◌, ◌≤◌, ◌&&◌, length, drop, eqb};
@@ -15,7 +17,7 @@ use leb128::SizeRead;
 pub const PAYLOAD_LIMIT: usize = 1048576;
 
 // A part of a payload: where it starts, how many bytes it has, and the cursor after it.
-#[derive(Drop)]
+#[derive(Clone, Copy)]
 pub struct Part {
     pub start: usize,
     pub length: usize,
@@ -30,7 +32,7 @@ const NOWHERE: Part = Part {
 };
 
 // What stands at a cursor.
-#[derive(Drop)]
+#[derive(Clone, Copy)]
 pub enum ElementRead {
     Found(Part),
     Refused { refusal: Refusal, at: usize },
@@ -38,7 +40,7 @@ pub enum ElementRead {
 
 // All elements: how many there are, the one asked for, and the last; where there is no such one, the empty part at the payload's start.
 // And how many of their length fields are padded.
-#[derive(Drop)]
+#[derive(Clone, Copy)]
 pub struct Walked {
     pub elements: usize,
     pub kept: Part,
@@ -55,7 +57,7 @@ const UNWALKED: Walked = Walked {
 };
 
 // What going through all elements finds.
-#[derive(Drop)]
+#[derive(Clone, Copy)]
 pub enum Walk {
     Whole(Walked),
     Refused { refusal: Refusal, at: usize },

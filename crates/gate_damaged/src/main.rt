@@ -2,6 +2,8 @@
 // for each: the payload's length, or the place and the byte there; then the number of the refusal, or the bytes handed out, in
 // brackets, the new state, how many length fields and how many size fields are padded, and whether an open fragment and an element were
 // thrown away; and last the whole store, in brackets. Bytes are in hexadecimal.
+#![tactic(auto)]
+
 mod payloads;
 mod show;
 

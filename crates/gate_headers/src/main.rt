@@ -1,4 +1,6 @@
 // The header call in both forms, run on the same records and units: every flag, four elements, and each way to R11.
+#![tactic(auto)]
+
 ghost use Rattle.std.specs.Prelude.{◌≡◌};
 ghost use Rattle.aggregation.specs.Header.{header_of};
 ghost use Rattle.aggregation.specs.Paper.{paper};

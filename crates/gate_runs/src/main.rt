@@ -3,6 +3,8 @@
 // writes and the lines that it says. `out`: both stand in one stream. `nowhere`: every write of bytes fails. `prefixes`: it is run on
 // every beginning of the file, the empty one first; a line with how many bytes that is stands before, and an empty line after each run.
 // From a folder every read fails.
+#![tactic(auto)]
+
 use libc::STDOUT_FILENO;
 use running::Streams;
 

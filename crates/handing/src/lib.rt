@@ -1,4 +1,6 @@
 // OBUs that lie across store and payload (V8 to V12, F6, R18): judged, counted and handed out.
+#![tactic(auto)]
+
 ghost use Rattle.std.specs.Prelude.{◌≡◌, ◌+◌, ◌-◌, ◌≤◌, ◌<◌, true, cond, length, take, drop};
 ghost use Rattle.base.specs.Lists.{replaced};
 ghost use Rattle.obu.specs.Front.{start_of, span_of};
@@ -17,7 +19,7 @@ const HEAD_BYTES: usize = 10;
 pub const FRAGMENT_LIMIT: usize = 1048576;
 
 // Bytes across store and payload: the first `kept` of the store, then `size` of the payload from `start` on.
-#[derive(Drop)]
+#[derive(Clone, Copy)]
 pub struct Fragment {
     pub kept: usize,
     pub start: usize,
@@ -25,7 +27,7 @@ pub struct Fragment {
 }
 
 // What goes out for finished OBUs: how many bytes; and how many padded size fields they had, those of dropped types too.
-#[derive(Drop)]
+#[derive(Clone, Copy)]
 pub struct Handed {
     pub bytes: usize,
     pub padded: usize,
@@ -37,7 +39,7 @@ const NOTHING: Handed = Handed {
 };
 
 // That, or the refusal of one of them.
-#[derive(Drop)]
+#[derive(Clone, Copy)]
 pub enum HandedOut {
     Bytes(Handed),
     Refused(Refusal),

@@ -1,4 +1,6 @@
 // Size fields (leb128): seven bits a byte, least first, the top bit set on every byte but the last (F1 to F6).
+#![tactic(auto)]
+
 ghost use Rattle.std.specs.Prelude.{◌≡◌, ◌+◌, ◌≤◌, ◌<◌, length};
 ghost use Rattle.base.specs.Lists.{replaced};
 ghost use Rattle.leb128.specs.Field.{field_in, encode, longest_field, is_padded, size_answer};
@@ -12,7 +14,7 @@ const LONGEST_FIELD: usize = 8;
 const LARGEST_VALUE: u64 = 4294967295;
 
 // A size field that was read: its value, the bytes that it takes, and whether they are its shortest form.
-#[derive(Drop)]
+#[derive(Clone, Copy)]
 pub struct SizeField {
     pub value: u32,
     pub used: usize,
@@ -20,14 +22,14 @@ pub struct SizeField {
 }
 
 // What reading a size field finds.
-#[derive(Drop)]
+#[derive(Clone, Copy)]
 pub enum SizeRead {
     Read(SizeField),
     Refused(Refusal),
 }
 
 // The same before the test of the value.
-#[derive(Drop)]
+#[derive(Clone, Copy)]
 enum Tail {
     Read { value: u64, used: usize },
     Refused(Refusal),

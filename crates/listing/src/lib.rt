@@ -1,4 +1,6 @@
 // `planlist` as steps on lent bytes: all that it decides (G8 to G14, L12, L13). The program does as each turn orders.
+#![tactic(auto)]
+
 mod head;
 mod text;
 
@@ -23,20 +25,20 @@ pub const OBU_LIST_NUMBERS: usize = turns::LIST_RECORDS * obu::OBU_NUMBERS;
 pub const PLAN_LIST_NUMBERS: usize = turns::LIST_RECORDS * packetizer::PLAN_NUMBERS;
 
 // What a head states.
-#[derive(Drop)]
+#[derive(Clone, Copy)]
 struct Stated {
     pub mtu: usize,
     pub length: usize,
 }
 
-#[derive(Drop)]
+#[derive(Clone, Copy)]
 enum HeadRead {
     Head(Stated),
     Bad,
 }
 
 // The numbers of a line, in its order.
-#[derive(Drop)]
+#[derive(Clone, Copy)]
 struct Row {
     pub packet: usize,
     pub first_obu: u32,
@@ -49,7 +51,7 @@ struct Row {
 }
 
 // What a run waits for: the head, the unit, a further byte, its turn to print the line of packet k, or nothing.
-#[derive(Drop)]
+#[derive(Clone, Copy)]
 pub enum Wait {
     Head,
     Unit,
@@ -59,7 +61,7 @@ pub enum Wait {
 }
 
 // Where a run stands: what it waits for, what the head states, and how many OBUs and packets the plan has.
-#[derive(Drop)]
+#[derive(Clone, Copy)]
 pub struct Place {
     pub wait: Wait,
     pub mtu: usize,
@@ -69,7 +71,7 @@ pub struct Place {
 }
 
 // What the program does now, and where it then stands.
-#[derive(Drop)]
+#[derive(Clone, Copy)]
 pub struct Turn {
     pub place: Place,
     pub order: Order,

@@ -9,13 +9,13 @@ use crate::{OBU_NUMBERS, Obu, ObuRead, UNIT_LIMIT};
 use base::Refusal;
 
 // How many OBUs of a unit are kept.
-#[derive(Drop)]
+#[derive(Clone, Copy)]
 pub struct Kept {
     pub obus: usize,
 }
 
 // The answer of the comparing call.
-#[derive(Drop)]
+#[derive(Clone, Copy)]
 pub enum SameList {
     Same(Kept),
     Refused { refusal: Refusal, at: usize },

@@ -1,4 +1,6 @@
 // OBUs: a unit is taken apart into the list of its kept OBUs (O1 to O9), and an OBU of exactly some bytes is judged (R18).
+#![tactic(auto)]
+
 mod compare; // compare.rt: whether a list is that of a unit
 mod unit; // unit.rt: the OBUs of a unit counted, and their records stored
 
@@ -22,7 +24,7 @@ const UNIT_LIMIT: usize = 1048576;
 pub const OBU_NUMBERS: usize = 5;
 
 // A kept OBU: header byte, extension byte or 0, where its payload starts and how long it is, and its size without the size field.
-#[derive(Drop)]
+#[derive(Clone, Copy)]
 pub struct Obu {
     pub header: u8,
     pub extension: u8,
@@ -32,7 +34,7 @@ pub struct Obu {
 }
 
 // An OBU at the front of some bytes: how many bytes its size field and its payload have.
-#[derive(Drop)]
+#[derive(Clone, Copy)]
 pub struct Head {
     pub header: u8,
     pub extension: u8,
@@ -41,21 +43,21 @@ pub struct Head {
 }
 
 // What stands at the front of some bytes.
-#[derive(Drop)]
+#[derive(Clone, Copy)]
 pub enum ObuRead {
     Found(Head),
     Refused(Refusal),
 }
 
 // What a unit's list holds: how many OBUs are kept, and how many size fields of all its OBUs are padded.
-#[derive(Drop)]
+#[derive(Clone, Copy)]
 pub struct Listed {
     pub obus: usize,
     pub padded: usize,
 }
 
 // The answer of the list call.
-#[derive(Drop)]
+#[derive(Clone, Copy)]
 pub enum ObuList {
     Listed(Listed),
     Refused { refusal: Refusal, at: usize },

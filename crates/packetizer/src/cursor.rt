@@ -15,7 +15,7 @@ use crate::{
 use base::Refusal;
 
 // A packet, and the byte of the OBU that the next one starts with.
-#[derive(Drop)]
+#[derive(Clone, Copy)]
 struct Next {
     packet: PacketMetadata,
     obu: usize,

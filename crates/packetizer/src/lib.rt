@@ -1,4 +1,6 @@
 // The plan: which bytes of which kept OBUs go into which packet (P1 to P15).
+#![tactic(auto)]
+
 mod packet; // packet.rt: one packet while it is filled
 mod cursor; // cursor.rt: packet after packet, compared with a lent plan
 
@@ -30,7 +32,7 @@ const AGGREGATION_HEADER_SIZE: usize = 1;
 pub const START_LIMIT: u64 = 4294967295;
 
 // A packet of a plan, under the names of the Rust; and where its payload starts in the output.
-#[derive(Drop)]
+#[derive(Clone, Copy)]
 pub struct PacketMetadata {
     pub first_obu_index: u32,
     pub num_obu_elements: u32,
@@ -41,21 +43,21 @@ pub struct PacketMetadata {
 }
 
 // What a call plans.
-#[derive(Drop)]
+#[derive(Clone, Copy)]
 pub struct Planned {
     pub obus: usize,
     pub packets: usize,
 }
 
 // The answer of the plan call.
-#[derive(Drop)]
+#[derive(Clone, Copy)]
 pub enum PlanAnswer {
     Planned(Planned),
     Refused { refusal: Refusal, at: usize },
 }
 
 // The current packet, and how many are closed before it.
-#[derive(Drop)]
+#[derive(Clone, Copy)]
 struct Filling {
     packet: PacketMetadata,
     records: usize,

@@ -20,33 +20,33 @@ pub const VERSION_WIDTH: usize = 1;
 pub const UNIT_WIDTH: usize = 4;
 
 // The version of an input: a short mtu or a long one.
-#[derive(Drop)]
+#[derive(Clone, Copy)]
 pub enum InputVersion {
     Short,
     Long,
 }
 
-#[derive(Drop)]
+#[derive(Clone, Copy)]
 pub enum VersionRead {
     Known(InputVersion),
     Other,
 }
 
 // The head of the input.
-#[derive(Drop)]
+#[derive(Clone, Copy)]
 pub struct PackHead {
     pub mtu: usize,
     pub first: u16,
 }
 
-#[derive(Drop)]
+#[derive(Clone, Copy)]
 pub enum PackHeadRead {
     Head(PackHead),
     NoHead,
 }
 
 // The length of a unit: a cut field or a unit over the store counts as cut.
-#[derive(Drop)]
+#[derive(Clone, Copy)]
 pub enum UnitLength {
     Stated(usize),
     End,

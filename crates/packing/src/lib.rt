@@ -1,4 +1,6 @@
 // `pack` as steps on lent bytes: all that it decides (G1 to G4, G6, G7, G12, G14). The program does as each turn orders.
+#![tactic(auto)]
+
 mod input;
 mod subjects;
 mod unit;
@@ -30,7 +32,7 @@ pub const RECORD_BYTES: usize = train::FIELDS_MOST + OUTPUT_BYTES;
 
 // What a run waits for: the version byte, the rest of a head of this version, a unit's length, a unit of so many bytes, that the packets of
 // a unit are written, or nothing.
-#[derive(Drop)]
+#[derive(Clone, Copy)]
 pub enum Wait {
     Version,
     Head(InputVersion),
@@ -41,7 +43,7 @@ pub enum Wait {
 }
 
 // Where a run stands: what it waits for, how many units came before, the mtu, and the next packet's number.
-#[derive(Drop)]
+#[derive(Clone, Copy)]
 pub struct Place {
     pub wait: Wait,
     pub count: u64,
@@ -50,7 +52,7 @@ pub struct Place {
 }
 
 // What the program does now, and where it then stands.
-#[derive(Drop)]
+#[derive(Clone, Copy)]
 pub struct Turn {
     pub place: Place,
     pub order: Order,

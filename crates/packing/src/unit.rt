@@ -14,7 +14,7 @@ use base::Refusal;
 use packetizer::{PlanAnswer, Planned};
 
 // The packets of a unit that is packed: how many bytes it has, how many OBUs and packets, and which packet is the next to be written.
-#[derive(Drop)]
+#[derive(Clone, Copy)]
 pub struct Progress {
     pub unit: usize,
     pub obus: usize,
@@ -23,7 +23,7 @@ pub struct Progress {
 }
 
 // A unit is packed, so many OBUs into so many packets; or refused, or cut.
-#[derive(Drop)]
+#[derive(Clone, Copy)]
 pub enum UnitAnswer {
     Packed(Planned),
     Refused(Refusal),

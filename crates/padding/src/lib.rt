@@ -1,5 +1,7 @@
 // `padded` as steps on lent bytes (G17): those of `pack`, but that the line of a unit is written in place of its packets. The program does
 // as each turn orders, from the turn that `pack` begins with.
+#![tactic(auto)]
+
 ghost use Rattle.std.specs.Prelude.{◌≡◌, ℕ, ◌/◌, ◌≤◌, List, length};
 ghost use Rattle.base.specs.Lists.{front};
 ghost use Rattle.base.specs.Answers.{given};

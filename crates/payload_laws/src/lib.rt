@@ -1,1 +1,3 @@
 // Laws of the payloads. There is no code here: specs/ has statements, and proofs/ the theorems.
+
+#![tactic(auto)]

@@ -1,4 +1,6 @@
 // The payload bytes of a unit's packets (Y1 to Y5), from its list and plan: one packet, or several one after the other.
+#![tactic(auto)]
+
 ghost use Rattle.std.specs.Prelude.{◌≡◌, ◌+◌, ◌-◌, ◌≤◌, ◌<◌, cond, [], ◌∷◌, ◌++◌, length, get_or, take, drop};
 ghost use Rattle.std.proofs.lemmas.List.Edits.{sets};
 ghost use Rattle.base.specs.Lists.{joined};
@@ -18,13 +20,13 @@ use obu::Obu;
 use packetizer::PlanAnswer;
 
 // What was written.
-#[derive(Drop)]
+#[derive(Clone, Copy)]
 pub struct Written {
     pub bytes: usize,
 }
 
 // The answer of the writing calls.
-#[derive(Drop)]
+#[derive(Clone, Copy)]
 pub enum WriteAnswer {
     Written(Written),
     Refused { refusal: Refusal, at: usize },

@@ -1,4 +1,6 @@
 // The receiver (V1 to V18): one packet taken, its finished OBUs handed out, the fragment that it leaves open kept in the store.
+#![tactic(auto)]
+
 ghost use Rattle.std.specs.Prelude.{◌≡◌, ◌≤◌, if◌then◌else◌, nat_eq};
 ghost use Rattle.receiver.specs.Joining.{distance, is_ahead, is_in_step, label};
 ghost use Rattle.receiver.specs.Call.{too_long, inputs, leaves, received};
@@ -13,7 +15,7 @@ use handing::{Fragment, HandedOut};
 const FURTHEST_AHEAD: u16 = 32767;
 
 // Whether something was taken, the last number taken, and how many bytes of the store are the open fragment.
-#[derive(Drop)]
+#[derive(Clone, Copy)]
 pub struct State {
     pub begun: bool,
     pub last: u16,
@@ -28,7 +30,7 @@ pub const FRESH: State = State {
 };
 
 // The padded fields of a packet: the length fields of its elements, thrown away or not, and the size fields of the OBUs that it finishes.
-#[derive(Drop)]
+#[derive(Clone, Copy)]
 pub struct Padded {
     pub lengths: usize,
     pub sizes: usize,
@@ -36,7 +38,7 @@ pub struct Padded {
 
 // What a packet that is taken gives: the new state, how many bytes go out, its padded fields, and whether an open fragment, and whether an
 // element, was thrown away.
-#[derive(Drop)]
+#[derive(Clone, Copy)]
 pub struct Received {
     pub state: State,
     pub bytes: usize,
@@ -46,7 +48,7 @@ pub struct Received {
 }
 
 // The answer of the receive call.
-#[derive(Drop)]
+#[derive(Clone, Copy)]
 pub enum Receipt {
     Received(Received),
     Refused(Refusal),

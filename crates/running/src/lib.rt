@@ -1,4 +1,6 @@
 // The loops of the programs: they carry out what a step orders, and decide nothing (G1, G7, G14).
+#![tactic(auto)]
+
 pub mod pack;
 pub mod padded;
 pub mod planlist;
@@ -12,7 +14,7 @@ use libc::{STDERR_FILENO, STDIN_FILENO, STDOUT_FILENO};
 use turns::{Came, Order};
 
 // The descriptors that a program reads, writes and says its lines on.
-#[derive(Drop)]
+#[derive(Clone, Copy)]
 pub struct Streams {
     pub from: i32,
     pub to: i32,

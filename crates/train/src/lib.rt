@@ -1,4 +1,6 @@
 // The train file: version byte, then records of length, number and payload (T1 to T3): head and records read, a record's head written.
+#![tactic(auto)]
+
 ghost use Rattle.std.specs.Prelude.{◌≡◌, ◌+◌, ◌≤◌, length, drop};
 ghost use Rattle.base.specs.Lists.{front, Put};
 ghost use Rattle.train.specs.Train.{head_for, counted_width, number_width, record_fields, head_of, fields_of, front_of};
@@ -28,26 +30,26 @@ const LEAST_STATED: usize = 3;
 pub const FIELDS_MOST: usize = LONG_WIDTH + NUMBER_WIDTH;
 
 // A train's head: its version, and the width of its length fields.
-#[derive(Drop)]
+#[derive(Clone, Copy)]
 pub struct TrainHead {
     pub version: u8,
     pub width: usize,
 }
 
-#[derive(Drop)]
+#[derive(Clone, Copy)]
 pub enum HeadRead {
     Train(TrainHead),
     Refused(Refusal),
 }
 
 // What stands before a payload: the packet's number, and how many bytes the payload has.
-#[derive(Drop)]
+#[derive(Clone, Copy)]
 pub struct RecordFields {
     pub number: u16,
     pub length: usize,
 }
 
-#[derive(Drop)]
+#[derive(Clone, Copy)]
 pub enum FieldsRead {
     Fields(RecordFields),
     End,
@@ -55,14 +57,14 @@ pub enum FieldsRead {
 }
 
 // A record: its number, and where its payload starts and how long it is.
-#[derive(Drop)]
+#[derive(Clone, Copy)]
 pub struct RecordHead {
     pub number: u16,
     pub start: usize,
     pub length: usize,
 }
 
-#[derive(Drop)]
+#[derive(Clone, Copy)]
 pub enum RecordRead {
     Found(RecordHead),
     End,

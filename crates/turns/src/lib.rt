@@ -1,4 +1,6 @@
 // What the steps of all programs share: the order that a step gives, what came of it, and the lines for standard error (G7, G14).
+#![tactic(auto)]
+
 ghost use Rattle.std.specs.Prelude.{◌≡◌, ◌+◌, ◌≤◌, true, false, length};
 ghost use Rattle.base.specs.Lists.{front, Put};
 ghost use Rattle.base.specs.Words.{words_most};
@@ -7,7 +9,7 @@ ghost use Rattle.turns.specs.Orders.{next_count};
 
 // What a program does before its next step, in this order: so many bytes at the front of its output go to standard output, so many
 // at the front of its line to standard error, and so many are read to the front of its input. Without `more` it does nothing and ends.
-#[derive(Drop)]
+#[derive(Clone, Copy)]
 pub struct Order {
     pub more: bool,
     pub write: usize,
@@ -16,7 +18,7 @@ pub struct Order {
 }
 
 // What came of it: so many bytes were read, fewer than asked for at the end of the input alone; or a read or a write failed.
-#[derive(Drop)]
+#[derive(Clone, Copy)]
 pub enum Came {
     Read(usize),
     ReadFailed,
@@ -24,7 +26,7 @@ pub enum Came {
 }
 
 // What a line is of, and what it says; a refusal is given by its number.
-#[derive(Drop)]
+#[derive(Clone, Copy)]
 pub enum Subject {
     Input,
     Train,
@@ -32,7 +34,7 @@ pub enum Subject {
     Record(u64),
 }
 
-#[derive(Drop)]
+#[derive(Clone, Copy)]
 pub enum Word {
     Refused(u32),
     NoHead,

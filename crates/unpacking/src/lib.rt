@@ -1,4 +1,6 @@
 // `unpack` as steps on lent bytes: all that it decides (G1, G5 to G7, G14 to G16, L14, L15). The program does as each turn orders.
+#![tactic(auto)]
+
 mod losses;
 mod passing;
 mod records;
@@ -30,7 +32,7 @@ pub const FRAGMENT_STORE: usize = 32768;
 
 // What a run waits for: the version byte, what stands before a payload, a payload, so many bytes of one that is read away, the close of
 // the run, or nothing.
-#[derive(Drop)]
+#[derive(Clone, Copy)]
 pub enum Wait {
     Version,
     Fields,
@@ -42,7 +44,7 @@ pub enum Wait {
 
 // Where a run stands: what it waits for, how many records came before, the width of the train's length fields once its head was read,
 // the receiver's state, and what was lost.
-#[derive(Drop)]
+#[derive(Clone, Copy)]
 pub struct Place {
     pub wait: Wait,
     pub count: u64,
@@ -52,7 +54,7 @@ pub struct Place {
 }
 
 // What the program does now, and where it then stands.
-#[derive(Drop)]
+#[derive(Clone, Copy)]
 pub struct Turn {
     pub place: Place,
     pub order: Order,

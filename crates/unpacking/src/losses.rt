@@ -5,7 +5,7 @@ ghost use Rattle.turns.specs.Text.{line_bytes};
 ghost use Rattle.unpacking.specs.Unpack.{no_losses, counted_if, with_taken, with_passed, with_open, is_none, losses_line};
 
 // Packets passed over, open fragments and leading elements thrown away.
-#[derive(Drop)]
+#[derive(Clone, Copy)]
 pub struct Losses {
     pub packets: u64,
     pub fragments: u64,

@@ -9,7 +9,7 @@ use receiver::{Receipt, Received, State};
 use train::RecordFields;
 
 // What a record leads to: its packet is taken, or passed over; or reading stops, as the record is cut.
-#[derive(Drop)]
+#[derive(Clone, Copy)]
 pub enum RecordStep {
     Taken(Received),
     PassedOver(Refusal),

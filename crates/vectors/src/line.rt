@@ -15,7 +15,7 @@ const OUTPUT: usize = 3;
 
 // What was read of a line: which word it is in, the four numbers, the first half of a byte if it has come, the unit's length,
 // its last byte, whether the star has come, and the number after it.
-#[derive(Drop)]
+#[derive(Clone, Copy)]
 pub struct Line {
     pub word: usize,
     pub mtu: usize,

@@ -7,6 +7,8 @@
 // call or of the first packet whose write is refused; or `obus`, their count and records, `packets`, their count and records,
 // `headers` and `payloads`, one for each packet. After a count of 0 nothing stands for its records, and after no packets no headers
 // and no payloads.
+#![tactic(auto)]
+
 mod line;
 mod show;
 
