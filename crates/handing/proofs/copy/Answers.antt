@@ -1,0 +1,16 @@
+use mathlib.Core.Path.{◌≡◌, ◌∙◌}
+use native.Mathlib.Omega.{arith}
+use lib.ListN.{length, take, drop, length-drop}
+use lib.Seq.{sets-eq, length-take-le}
+use borrow.Author.Rules.{rules}
+use Rattle.handing.proofs.copy.Goals as goal
+
+pub copy_spec : {M : Type 1} → statement M
+copy_spec = tie.close (tie.spec copy-bytes-requires same_length returns)
+
+pub returns : goal.returns
+returns c = let a = c.args in
+    let p = c.requires in
+    let n : length (take a.size (drop a.start a.from.now)) ≡ a.size = length-take-le a.size (drop a.start a.from.now) (omega (arith, length-drop a.start a.from.now, p.1)) in
+    c.copy_bytes.ensures.1
+    ∙ sets-eq (take a.size (drop a.start a.from.now)) a.to.now a.at (omega (arith, p.0))

@@ -1,0 +1,46 @@
+use mathlib.Core.Path.{◌≡◌, sym, ap, ◌∙◌}
+use Prim.Native.Nat.{ℕ, ◌+◌, ◌*◌, ◌%◌, ◌<◌}
+use native.Mathlib.Omega.{arith}
+use mathlib.Core.Bool.{Bool, not}
+use lib.ListN.{length, get_or}
+use borrow.Author.Tests.{le-ltb}
+use Rattle.base.specs.Answers.{given}
+use Rattle.leb128.specs.Field.{Field, sized, field_in, capped, encode, is_padded, answer_by, longest_field}
+use Rattle.leb128.specs.Paper.{paper_tail}
+use Rattle.leb128.proofs.Reading.{field_last, field_two, capped_small, capped_large}
+use Rattle.leb128.proofs.Writing.{encode_pos}
+use Rattle.leb128.proofs.Padded.{two_shortest}
+use borrow.Author.Rules.{rules}
+use Rattle.leb128.proofs.read_leb128.Goals as goal
+
+-- the answer for a field that was read
+answers : (v n : ℕ) {p : Bool} {f : Field} → p ≡ is_padded v n → sized v n ≡ f → given (record { value = v; used = n; shortest = not p }) ≡ answer_by f
+answers v n e q = ap (λ (b : Bool). given (record { value = v; used = n; shortest = not b })) e ∙ ap answer_by q
+
+pub returns-then-bytes-lt128 : goal.returns-then-bytes-lt128
+returns-then-bytes-lt128 c = let l = c.args.bytes.now in
+    let v : get_or l 0 0 ≡ get_or l 0 0 % 128 = omega (arith, c.if-bytes-lt128.true) in
+    answers _ _ (sym (le-ltb (length (encode (get_or l 0 0))) 1 (encode_pos 5 (get_or l 0 0) (omega arith))))
+    (capped_small l _ 1
+    (ap (λ (n : ℕ). sized n 1) v ∙ sym (field_last longest_field l (λ z. omega arith) (λ z. omega (arith, c.if-bytes-gt0.true)) (omega (arith, c.if-bytes-lt128.true))))
+    (omega (arith, c.if-bytes-lt128.true)))
+
+pub returns-then-bytes-lt128-2 : goal.returns-then-bytes-lt128-2
+returns-then-bytes-lt128-2 c = let l = c.args.bytes.now in
+    let small : get_or l 1 0 < 128 = c.if-bytes-lt128-2.true in
+    ap given c.of_two.ensures
+    ∙ ap (λ (b : Bool). given (record { value = get_or l 0 0 % 128 + 128 * get_or l 1 0; used = 2; shortest = b })) (two_shortest (get_or l 0 0) (get_or l 1 0) small)
+    ∙ ap answer_by (capped_small l _ 2 (sym (field_two 6 l c.if-bytes-gt1.true c.if-bytes-lt128.false small)) (omega arith))
+
+pub returns-then-value-le-LARGEST_VALUE : goal.returns-then-value-le-LARGEST_VALUE
+returns-then-value-le-LARGEST_VALUE c =
+    let told : sized c.in-Read.value c.in-Read.used ≡ field_in longest_field c.args.bytes.now = sym (ap paper_tail c.in-Read.is) ∙ c.read_tail.ensures in
+    answers _ _ c.is_padded.ensures (capped_small _ _ _ (told) (omega (arith, c.if-value-le-LARGEST_VALUE.true)))
+
+pub returns-else-value-le-LARGEST_VALUE : goal.returns-else-value-le-LARGEST_VALUE
+returns-else-value-le-LARGEST_VALUE c =
+    let told : sized c.in-Read.value c.in-Read.used ≡ field_in longest_field c.args.bytes.now = sym (ap paper_tail c.in-Read.is) ∙ c.read_tail.ensures in
+    ap answer_by (capped_large _ _ _ (told) (omega (arith, c.if-value-le-LARGEST_VALUE.false)))
+
+pub returns-in-Refused : goal.returns-in-Refused
+returns-in-Refused c = ap answer_by (ap capped (sym (ap paper_tail c.in-Refused.is) ∙ c.read_tail.ensures))

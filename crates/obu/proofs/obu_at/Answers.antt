@@ -1,0 +1,8 @@
+use native.Mathlib.Omega.{arith}
+use Rattle.obu.proofs.Records.{obu_in}
+use borrow.Author.Rules.{rules}
+use Rattle.obu.proofs.obu_at.Goals as goal
+
+pub returns : goal.returns
+returns c = let a = c.args in
+    obu_in a.obus.now a.i (omega arith)

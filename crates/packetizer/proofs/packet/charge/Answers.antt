@@ -1,0 +1,10 @@
+use native.Mathlib.Omega.{arith}
+use Rattle.packetizer.proofs.Steps.{charge_most}
+use borrow.Author.Rules.{rules}
+use Rattle.packetizer.proofs.packet.charge.Goals as goal
+
+pub overflow_add-result : goal.overflow_add-result
+overflow_add-result c = omega (arith, c.additional_bytes_for_previous_obu_element.ensures, charge_most c.args.p)
+
+pub returns : goal.returns
+returns c = rw c.additional_bytes_for_previous_obu_element.ensures

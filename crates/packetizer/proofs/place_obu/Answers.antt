@@ -1,0 +1,49 @@
+use mathlib.Core.Path.{◌≡◌, refl, sym, ap, ◌∙◌}
+use native.Mathlib.Omega.{arith}
+use Rattle.packetizer.specs.Plan.{new_packet, start_after, closing, insert, place}
+use Rattle.packetizer.specs.declared.PacketMetadata.{PacketMetadata}
+use Rattle.packetizer.proofs.Steps.{charge_none}
+use Rattle.packetizer.proofs.Starts.{insert_lined}
+use Rattle.packetizer.proofs.Placing.{place_new, place_on, one_more, closing_room, closing_near, closing_asks, closing_stored}
+use borrow.Author.Rules.{rules}
+use Rattle.packetizer.proofs.place_obu.Goals as goal
+
+-- the packet is full, and q is the next one
+full : (c : tie.Then1) (q : PacketMetadata) →
+    let a = (start c.before).args in
+    q ≡ new_packet a.i (start_after a.f.packet) → place a.room a.i a.size a.f.packet ≡ closing a.f.packet (insert a.room a.i a.size q)
+full c q e = let a = (start c.before).args in place_new a.room a.i a.size a.f.packet q e (sym c.before.is-full.ensures ∙ c.if1.true)
+
+pub put_record-requires : goal.put_record-requires
+put_record-requires c = closing_room (full c _ refl) c.requires.1
+
+pub start_after-start-requires : goal.start_after-start-requires
+start_after-start-requires c = let a = c.args in
+    closing_near (full c _ refl) c.requires.1 (insert_lined a.room a.i a.size (new_packet a.i (start_after a.f.packet)))
+
+pub insert_obu-requires : goal.insert_obu-requires
+insert_obu-requires c =
+    let new : let a = c.args in c.new_packet.result ≡ new_packet a.i (start_after a.f.packet) = let a = c.args in c.new_packet.ensures ∙ ap (new_packet a.i) c.start_after-start.ensures in
+    let q = c.new_packet.result in
+    let z : (q.num_obu_elements ≡ 0) × (q.packet_size ≡ 0) = (ap (λ (p : PacketMetadata). p.num_obu_elements) (new), ap (λ (p : PacketMetadata). p.packet_size) (new)) in (
+      omega (arith, c.requires.0, charge_none q z.0),
+      closing_asks (full c q (new)) c.requires.1 _ c.put_record.auto.0,
+    )
+
+pub returns-then-is_full : goal.returns-then-is_full
+returns-then-is_full c =
+    let new : let a = c.args in c.new_packet.result ≡ new_packet a.i (start_after a.f.packet) = let a = c.args in c.new_packet.ensures ∙ ap (new_packet a.i) c.start_after-start.ensures in
+    closing_stored (full c _ (new)) c.put_record.ensures c.insert_obu.ensures
+
+pub insert_obu-requires-2 : goal.insert_obu-requires-2
+insert_obu-requires-2 c =
+    let on : let a = c.args in place a.room a.i a.size a.f.packet ≡ insert a.room a.i a.size a.f.packet = let a = c.args in place_on a.room a.i a.size a.f.packet (sym c.is_full.ensures ∙ c.if-is_full.false) in
+    let a = c.args in (
+      omega (arith, c.requires.0, one_more a.room a.f.packet (sym c.is_full.ensures ∙ c.if-is_full.false)),
+      rw (on) at c.requires.1,
+    )
+
+pub returns : goal.returns
+returns c =
+    let on : let a = c.args in place a.room a.i a.size a.f.packet ≡ insert a.room a.i a.size a.f.packet = let a = c.args in place_on a.room a.i a.size a.f.packet (sym c.is_full.ensures ∙ c.if-is_full.false) in
+    rw (on) c.insert_obu-2.ensures

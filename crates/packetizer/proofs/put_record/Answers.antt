@@ -1,0 +1,14 @@
+use native.Mathlib.Omega.{arith}
+use mathlib.Core.List.{flat_map}
+use borrow.Author.Rules.{rules}
+use Rattle.packetizer.proofs.put_record.Goals as goal
+
+pub overflow_mul-n : goal.overflow_mul-n
+overflow_mul-n c = let r = c.requires c.if-store.true in omega arith
+
+pub put_numbers-requires : goal.put_numbers-requires
+put_numbers-requires c = let r = c.requires c.if-store.true in omega arith
+
+pub returns-then-store : goal.returns-then-store
+unfolding flat_map
+returns-then-store c = rw c.if-store.true c.put_numbers.ensures

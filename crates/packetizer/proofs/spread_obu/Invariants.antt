@@ -1,0 +1,11 @@
+use Prim.Native.Nat.{◌-◌}
+use native.Mathlib.Omega.{arith}
+use borrow.Author.Rules.{rules}
+use Rattle.packetizer.proofs.Spreading.{Spreading, spreading_first, spreading_few, spreading_room, spreading_near, spreading_next, spreading_end}
+use Rattle.packetizer.proofs.spread_obu.Given as goal
+
+abbrev pub invariant-loop-offset : goal.invariant-loop-offset
+invariant-loop-offset l = Spreading l.store l.room l.i l.size l.from l.start l.records l.initial.plan l.plan l.n l.offset l.next
+
+abbrev pub decreases-loop-offset : goal.decreases-loop-offset
+decreases-loop-offset l = l.size - l.offset

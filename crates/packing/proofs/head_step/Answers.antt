@@ -1,0 +1,34 @@
+use Rattle.std.proofs.Common.{◌≡◌, [], ◌∷◌, sym, refl, ap, ◌∙◌, arith, rules}
+use Rattle.base.specs.Lists.{front}
+use Rattle.train.specs.Train.{head_for}
+use Rattle.train.specs.declared.TrainHead.{TrainHead}
+use Rattle.turns.specs.Orders.{Told}
+use Rattle.turns.proofs.Turning.{asked}
+use Rattle.packing.specs.declared.Wait.TheVariants as wait
+use Rattle.packing.specs.declared.Place.{Place}
+use Rattle.packing.specs.declared.input.PackHeadRead.{PackHeadRead}
+use Rattle.packing.specs.Pack.{unit_width, head_after}
+use Rattle.packing.specs.Paper.{paper_head}
+use Rattle.packing.specs.Steps.{head_told}
+use Rattle.packing.proofs.Turning.{gives, gives_as, first_stored}
+use Rattle.packing.proofs.head_step.Goals as goal
+
+-- what is told, by what was read
+told-by : (c : tie.After-read-head) (x : PackHeadRead) → c.read-head.result ≡ x → let a = (start c).args in
+    head_told a.place (head_after a.version a.got.now) ≡ head_told a.place (paper_head x)
+told-by c x e = ap (head_told (start c).args.place) (sym c.read-head.ensures ∙ ap paper_head e)
+
+pub returns-in-NoHead : goal.returns-in-NoHead
+returns-in-NoHead c = let told = told-by c _ c.in-NoHead.is in
+    (gives_as told c.say.ensures, ap (λ (c : Told Place). front c.written c.args.written.now) (sym told))
+
+pub returns-in-Head : goal.returns-in-Head
+returns-in-Head c = let a = c.args in
+    let h = c.in-Head.head in
+    let told = told-by c _ c.in-Head.is in
+    let p : Place = record { wait = wait.Length; count = a.place.count; mtu = h.mtu; number = h.first } in (
+      gives p refl tt (asked p ((head_for h.mtu).version ∷ []) 1 unit_width told refl c.ask.ensures refl (omega arith) (omega arith)),
+      first_stored a.written.now (omega (arith, c.requires.0))
+          ∙ ap (λ (t : TrainHead). front (t.version ∷ []) a.written.now) c.head_for-train_head.ensures
+          ∙ ap (λ (t : Told Place). front t.written a.written.now) (sym told),
+    )

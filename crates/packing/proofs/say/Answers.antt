@@ -1,0 +1,10 @@
+use Rattle.std.proofs.Common.{refl, arith, rules}
+use Rattle.turns.proofs.Turning.{said}
+use Rattle.packing.specs.declared.Wait.TheVariants as wait
+use Rattle.packing.specs.Steps.{awaits}
+use Rattle.packing.proofs.Turning.{gives}
+use Rattle.packing.proofs.say.Goals as goal
+
+pub returns : goal.returns
+returns c = let p = awaits c.args.place wait.Nothing in
+    gives p c.awaiting-last.ensures tt (said p c.args.subject c.args.word 0 refl c.awaiting-last.ensures c.say.ensures (omega arith))

@@ -1,0 +1,14 @@
+use Rattle.std.proofs.Common.{rules}
+use Rattle.packing.proofs.subjects.read_subject.Goals as goal
+
+pub returns-in-Length : goal.returns-in-Length
+returns-in-Length c = rw c.in-Length.is
+
+pub returns-in-Unit : goal.returns-in-Unit
+returns-in-Unit c = rw c.in-Unit.is
+
+pub returns-in-Packets : goal.returns-in-Packets
+returns-in-Packets c = rw c.in-Packets.is
+
+pub returns-in-Nothing : goal.returns-in-Nothing
+returns-in-Nothing c = rw c.in-Nothing.is

@@ -1,0 +1,44 @@
+use Rattle.std.proofs.Common.{◌≡◌, ℕ, [], sym, refl, ap, ◌∙◌, arith, rules}
+use Rattle.turns.specs.Orders.{says}
+use Rattle.turns.specs.declared.Order.{Order}
+use Rattle.turns.specs.declared.Subject.TheVariants as subject
+use Rattle.turns.specs.declared.Word.TheVariants as word
+use Rattle.turns.proofs.Turning.{asked}
+use Rattle.packing.specs.declared.Wait.TheVariants as wait
+use Rattle.packing.specs.declared.unit.UnitAnswer.{UnitAnswer}
+use Rattle.packing.specs.Paper.{paper_unit}
+use Rattle.packing.specs.Steps.{awaits, begins, unit_told, step_in}
+use Rattle.packing.proofs.Units.{step_in_lem}
+use Rattle.packing.proofs.Turning.{gives, gives_as, ready_as}
+use Rattle.packing.proofs.unit_step.Goals as goal
+
+-- what is told, by what came of it
+told-by : (c : tie.After-pack-unit) (u : UnitAnswer) → c.pack-unit.result ≡ u → let a = (start c).args in
+    unit_told a.place a.stated (step_in a.place.mtu a.stated a.got.now) ≡ unit_told a.place a.stated (paper_unit u)
+told-by c u e =
+    let a = (start c).args in
+    let s = (start c).requires in
+    ap (unit_told a.place a.stated)
+    (sym (c.pack-unit.ensures.0 ∙ step_in_lem a.place.mtu a.stated a.got.now a.obus.now a.plan.now s.1 s.2) ∙ ap paper_unit e)
+
+pub returns-in-Cut : goal.returns-in-Cut
+returns-in-Cut c = let said = c.say.ensures in
+    (gives_as (told-by c _ c.in-Cut.is) said, ready_as _ _ _ said.turned.0.place_is tt)
+
+pub returns-in-Refused : goal.returns-in-Refused
+returns-in-Refused c = let a = c.args in
+    let said = c.say-in-Refused.ensures in (
+      gives_as
+          (told-by c _ c.in-Refused.is
+          ∙ ap (λ (k : ℕ). says (awaits a.place wait.Nothing) (subject.Unit a.place.count) (word.Refused k) 0) (sym c.number.ensures)) said,
+      ready_as _ _ _ said.turned.0.place_is tt,
+    )
+
+pub returns-in-Packed : goal.returns-in-Packed
+returns-in-Packed c = let a = c.args in
+    let planned = c.in-Packed.planned in
+    let p = awaits a.place (wait.Packets (begins a.stated planned)) in
+    let there = c.awaiting.ensures in (
+      gives p there (ap (λ (o : Order). o.read) c.ask.ensures) (asked p [] 0 0 (told-by c _ c.in-Packed.is) there c.ask.ensures refl (omega arith) (omega arith)),
+      ready_as a.got.now _ _ there (c.pack_unit.ensures.1 planned c.in-Packed.is),
+    )

@@ -1,0 +1,35 @@
+use mathlib.Core.Path.{refl, sym, ap, ◌∙◌}
+use native.Mathlib.Omega.{arith}
+use lib.ListN.{take}
+use Rattle.packing.specs.Steps.{Ready}
+use Rattle.packing.specs.declared.Wait.{Wait}
+use Rattle.packing.specs.declared.Wait.TheVariants as wait
+use Rattle.packing.proofs.Turning.{ready_at}
+use Rattle.padding.specs.Padded.{line_of}
+use Rattle.padding.specs.Steps.{wait_for, text_for}
+use Rattle.padding.proofs.Printing.{no_packets, writes}
+use borrow.Author.Rules.{rules}
+use Rattle.padding.proofs.instead.Goals as goal
+
+pub slice_bounds-padded_in-end : goal.slice_bounds-padded_in-end
+slice_bounds-padded_in-end c =
+    let ready : let a = c.args in Ready a.turn.place.mtu c.in-Packets.progress (take c.in-Packets.progress.unit a.input.now) a.obus.now c.requires.0.0 = ready_at _ _ _ _ c.in-Packets.is c.requires.0.1 in
+    sym (ready).unit_is
+
+pub padded_in-padded-requires : goal.padded_in-padded-requires
+padded_in-padded-requires c =
+    let ready : let a = c.args in Ready a.turn.place.mtu c.in-Packets.progress (take c.in-Packets.progress.unit a.input.now) a.obus.now c.requires.0.0 = ready_at _ _ _ _ c.in-Packets.is c.requires.0.1 in
+    (ready).listing
+
+pub returns-in-Packets : goal.returns-in-Packets
+returns-in-Packets c = let a = c.args in
+    let count = a.turn.place.count in
+    writes
+    (ap wait_for c.in-Packets.is ∙ ap wait.Packets (sym c.passing.ensures))
+    (ap (λ (w : Wait). text_for w count a.input.now) c.in-Packets.is ∙ ap (line_of count) (sym c.padded_in-padded.ensures))
+    c.turned.ensures c.put_line-end.ensures.0 c.put_line-end.ensures.1 c.put_line-end.ensures.2
+
+pub returns : goal.returns
+returns c = let a = c.args in
+    let other = no_packets a.turn.place.wait c.in_default.in_default-own.keys2 in
+    writes other.0 (other.1 a.turn.place.count a.input.now) c.turned-2.ensures refl (omega arith) refl

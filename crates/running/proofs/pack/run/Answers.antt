@@ -1,0 +1,23 @@
+use Rattle.packing.proofs.Turning.{ready_as}
+use borrow.Author.Rules.{rules}
+use Rattle.packing.specs.Steps.{Goes}
+use Rattle.running.proofs.pack.run.Goals as goal
+
+pub run_spec : {M : Type 1} → statement M
+run_spec =
+    tie.close
+    (tie.spec
+    invariant-loop
+    decreases-loop
+    start-requires
+    loop-holds
+    next-requires
+    sub-left
+    loop-less
+    loop-again
+    returns
+    returns-2)
+
+pub loop-left-init : goal.loop-left-init
+loop-left-init c = let g = c.start-turn.ensures in
+    record { within = g.turned.1; still = g.still; ready = ready_as _ _ _ g.turned.0.place_is tt }

@@ -1,0 +1,9 @@
+use borrow.Author.Rules.{rules}
+use Rattle.unpacking.specs.Steps.{Goes}
+use Rattle.running.proofs.unpack.run.Given as goal
+
+abbrev pub invariant-loop-left : goal.invariant-loop-left
+invariant-loop-left l = Goes l.turn
+
+abbrev pub decreases-loop-left : goal.decreases-loop-left
+decreases-loop-left l = l.left

@@ -1,0 +1,117 @@
+use mathlib.Core.Path.{◌≡◌, refl, sym, ap}
+use lib.ListN.{length, take}
+use Rattle.turns.specs.Orders.{says}
+use Rattle.turns.specs.declared.Subject.{Subject}
+use Rattle.turns.specs.declared.Word.TheVariants as word
+use Rattle.turns.proofs.Orders.{came_part}
+use Rattle.turns.proofs.Turning.{ended}
+use Rattle.unpacking.specs.Steps.{awaits}
+use Rattle.unpacking.specs.declared.Wait.TheVariants as wait
+use Rattle.unpacking.proofs.Turning.{gives, stays, by_wait}
+use borrow.Author.Rules.{rules}
+use Rattle.unpacking.proofs.step.Goals as goal
+
+pub step_spec : {M : Type 1} → statement M
+step_spec =
+    tie.close
+    (tie.spec
+    enum_told
+    read-subject-requires
+    say-requires
+    enum-told-2
+    written-subject-requires
+    say-requires-2
+    enum-known-came
+    enum-told-3
+    slice-aggregate-version-step
+    version-step-requires
+    enum-told-4
+    slice-aggregate-fields-step
+    fields-step-requires
+    enum-known-wait
+    slice-aggregate-payload-step
+    payload-step-requires
+    enum-known-wait-2
+    slice-aggregate-away-step
+    away-step-requires
+    enum-told-5
+    close-requires
+    enum-told-6
+    over-requires
+    same_length
+    returns
+    same-length-2
+    returns-2
+    same-length-3
+    returns-3
+    same-length-4
+    returns-4
+    same-length-5
+    same-length-6
+    same-length-7
+    returns-5
+    same-length-8
+    returns-6
+    same-length-9
+    returns-7
+    returns-8)
+
+pub slice_bounds-version_step-end : goal.slice_bounds-version_step-end
+slice_bounds-version_step-end c =
+    let read : c.in-Read.n ≡ length (take c.in-Read.n c.args.input.now) = came_part c.args.input.now c.in-Read.is c.requires.came_within c.requires.input_is in
+    read
+
+pub slice_bounds-fields_step-end : goal.slice_bounds-fields_step-end
+slice_bounds-fields_step-end c =
+    let read : c.in-Read.n ≡ length (take c.in-Read.n c.args.input.now) = came_part c.args.input.now c.in-Read.is c.requires.came_within c.requires.input_is in
+    read
+
+pub slice_bounds-payload_step-end : goal.slice_bounds-payload_step-end
+slice_bounds-payload_step-end c =
+    let read : c.in-Read.n ≡ length (take c.in-Read.n c.args.input.now) = came_part c.args.input.now c.in-Read.is c.requires.came_within c.requires.input_is in
+    read
+
+pub slice_bounds-away_step-end : goal.slice_bounds-away_step-end
+slice_bounds-away_step-end c =
+    let read : c.in-Read.n ≡ length (take c.in-Read.n c.args.input.now) = came_part c.args.input.now c.in-Read.is c.requires.came_within c.requires.input_is in
+    read
+
+pub returns-in-ReadFailed : goal.returns-in-ReadFailed
+returns-in-ReadFailed c = let p = c.args.place in
+    rw c.in-ReadFailed.is
+    (stays (ap (λ (c : Subject). says (awaits p wait.Nothing) c word.ReadFailed 0) (sym c.read_subject-about.ensures)) c.say.ensures)
+
+pub returns-in-WriteFailed : goal.returns-in-WriteFailed
+returns-in-WriteFailed c = let p = c.args.place in
+    rw c.in-WriteFailed.is
+    (stays (ap (λ (c : Subject). says (awaits p wait.Nothing) c word.WriteFailed 0) (sym c.written_subject-about.ensures)) c.say-in-WriteFailed.ensures)
+
+pub returns-in-Version : goal.returns-in-Version
+returns-in-Version c = let a = c.args in
+    by_wait a.place a.input.now a.store.now a.out.now c.in-Read.is c.in-Version.is
+    (stays refl c.version_step.ensures)
+
+pub returns-in-Fields : goal.returns-in-Fields
+returns-in-Fields c = let a = c.args in
+    by_wait a.place a.input.now a.store.now a.out.now c.in-Read.is c.in-Fields.is
+    (stays refl c.fields_step.ensures)
+
+pub returns-in-Payload : goal.returns-in-Payload
+returns-in-Payload c = let a = c.args in
+    by_wait a.place a.input.now a.store.now a.out.now c.in-Read.is c.in-Payload.is
+    c.payload_step.ensures
+
+pub returns-in-Away : goal.returns-in-Away
+returns-in-Away c = let a = c.args in
+    by_wait a.place a.input.now a.store.now a.out.now c.in-Read.is c.in-Away.is
+    (stays refl c.away_step.ensures)
+
+pub returns-in-Close : goal.returns-in-Close
+returns-in-Close c = let a = c.args in
+    by_wait a.place a.input.now a.store.now a.out.now c.in-Read.is c.in-Close.is
+    (stays refl c.close.ensures)
+
+pub returns-in-Nothing : goal.returns-in-Nothing
+returns-in-Nothing c = let a = c.args in
+    by_wait a.place a.input.now a.store.now a.out.now c.in-Read.is c.in-Nothing.is
+    (stays refl (gives a.place refl c.requires.possible (ended a.place refl refl c.over.ensures)))
