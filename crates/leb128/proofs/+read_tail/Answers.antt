@@ -1,0 +1,44 @@
+use Rattle.std.proofs.Common.{ℕ, ◌+◌, ◌*◌, ◌<◌, ◌≤◌, sym, ap, ◌∙◌, arith, get_or}
+use lib.Bits.{and_le_r}
+use Rattle.base.specs.Refusals.{number_of}
+use Rattle.leb128.specs.Field.{sized, unreadable, field_in}
+use Rattle.leb128.specs.Paper.{paper_tail}
+use Rattle.leb128.proofs.Reading.{field_none, field_last, field_after, rest_small}
+use Rattle.leb128.proofs.Writing.{low7}
+use Rattle.leb128.proofs.+read_tail.Goals as goal
+
+pub returns-then-left-eq0 : goal.returns-then-left-eq0
+unfolding field_in
+returns-then-left-eq0 t c = rw c.if-left-eq0.true
+
+pub returns-then-bytes-eq0 : goal.returns-then-bytes-eq0
+returns-then-bytes-eq0 t c = sym (field_none c.args.left c.args.bytes.now c.if-left-eq0.false c.if-bytes-eq0.true)
+
+pub returns-then-first-lt128 : goal.returns-then-first-lt128
+returns-then-first-lt128 t c =
+    ap (λ (x : ℕ). sized x 1) (low7 (get_or c.args.bytes.now 0 0))
+    ∙ sym (field_last c.args.left c.args.bytes.now c.if-left-eq0.false c.if-bytes-eq0.false c.if-first-lt128.true)
+
+pub overflow_mul-result : goal.overflow_mul-result
+overflow_mul-result t c =
+    let h = rest_small c.args.left _ c.in-Read.value c.in-Read.used c.requires c.if-left-eq0.false c.in-Read.ensures in
+    omega arith
+
+pub overflow_add-result : goal.overflow_add-result
+overflow_add-result t c =
+    let h = rest_small c.args.left _ c.in-Read.value c.in-Read.used c.requires c.if-left-eq0.false c.in-Read.ensures in
+    omega (arith, and_le_r (get_or c.args.bytes.now 0 0) 127)
+
+pub overflow_add-result-in-Read : goal.overflow_add-result-in-Read
+overflow_add-result-in-Read t c =
+    let h = rest_small c.args.left _ c.in-Read.value c.in-Read.used c.requires c.if-left-eq0.false c.in-Read.ensures in
+    omega arith
+
+pub returns-in-Read : goal.returns-in-Read
+returns-in-Read t c =
+    ap (λ (x : ℕ). sized (x + 128 * c.in-Read.value) (c.in-Read.used + 1)) (low7 (get_or c.args.bytes.now 0 0))
+    ∙ field_after c.args.left c.args.bytes.now (sized c.in-Read.value c.in-Read.used) c.if-left-eq0.false c.if-bytes-eq0.false c.if-first-lt128.false c.in-Read.ensures
+
+pub returns-in-Refused : goal.returns-in-Refused
+returns-in-Refused t c =
+    field_after c.args.left c.args.bytes.now (unreadable (number_of c.in-Refused.refusal)) c.if-left-eq0.false c.if-bytes-eq0.false c.if-first-lt128.false c.in-Refused.ensures
