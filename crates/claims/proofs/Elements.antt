@@ -14,7 +14,7 @@ pub from_end : FromEnd
 from_end = laws.from_end
 
 pub in_order_lem : ElementsInOrder
-in_order_lem = order.in_order
+in_order_lem = order.in_order_lem
 
 pub count_w : CountW
 count_w = order.count_w

@@ -14,25 +14,25 @@ use Rattle.av1rtp.specs.contracts.av1rtp_train_record_head as recordHead
 use Rattle.settled.proofs.Exports as exports
 
 pub size_field_lem : Settled size_field.ended (λ M. size_field.clauses)
-size_field_lem = exports.size-field
+size_field_lem = exports.size_field_lem
 
 pub list_obus : Settled list.ended (λ M. list.clauses)
 list_obus = exports.list_obus
 
 pub plan_unit_lem : Settled plan.ended (λ M. plan.clauses)
-plan_unit_lem = exports.plan-unit
+plan_unit_lem = exports.plan_unit_lem
 
 pub header_of_lem : Settled header.ended (λ M. header.clauses)
-header_of_lem = exports.header_of
+header_of_lem = exports.header_of_lem
 
 pub write_packet_lem : Settled write_packet.ended (λ M. write_packet.clauses)
-write_packet_lem = exports.write-packet
+write_packet_lem = exports.write_packet_lem
 
 pub write_packets_lem : Settled write_packets.ended (λ M. write_packets.clauses)
-write_packets_lem = exports.write-packets
+write_packets_lem = exports.write_packets_lem
 
 pub element_of_lem : Settled element.ended (λ M. element.clauses)
-element_of_lem = exports.element-of
+element_of_lem = exports.element_of_lem
 
 pub received : Settled receive.ended (λ M. receive.clauses)
 received = exports.received
@@ -44,4 +44,4 @@ pub train_record : Settled trainRecord.ended (λ M. trainRecord.clauses)
 train_record = exports.train_record
 
 pub record_head_lem : Settled recordHead.ended (λ M. recordHead.clauses)
-record_head_lem = exports.record-head
+record_head_lem = exports.record_head_lem

@@ -8,7 +8,7 @@ use Rattle.payload_laws.proofs.Rows as rows
 use Rattle.claims.specs.Payloads.{PayloadAt, PayloadSize, PayloadFits, JoinedLength, StartIs, PayloadStands}
 
 pub payload_at_lem : PayloadAt
-payload_at_lem = lengths.payload-at
+payload_at_lem = lengths.payload_at_lem
 
 pub payload_size : PayloadSize
 payload_size = lengths.payload_size

@@ -11,7 +11,7 @@ pub padded_read : PaddedRead
 padded_read = theorems.padded_read
 
 pub read_back_lem : ReadBack
-read_back_lem = theorems.read_back
+read_back_lem = theorems.read_back_lem
 
 pub none_shorter : NoneShorter
 none_shorter = theorems.none_shorter

@@ -4,7 +4,7 @@ use Prim.Native.Nat.{ℕ, zero, suc, ◌+◌, ◌-◌, ◌≤◌, ◌<◌}
 use native.Mathlib.Numerals.{add-one}
 use native.Mathlib.Omega.{arith}
 use mathlib.Core.Bool.{Bool, cond}
-use mathlib.Core.List.{List, [], ◌∷◌, ◌++◌, append_assoc, append-nil, map_append}
+use mathlib.Core.List.{List, [], ◌∷◌, ◌++◌, append_assoc, append-nil, map-append}
 use lib.ListN.{length, get_or, drop, drop_of_length-le}
 use lib.Seq.{drop-cons}
 use lib.Dec.{ltb, eqb, leb-suc-suc}
@@ -149,7 +149,7 @@ module _ (room : ℕ) (sizes : List ℕ) (large : 2 ≤ room) (small : room ≤ 
       ∙ ap (packetize_from room (length sizes) (i + 1) (drop (i + 1) sizes)) (step_same room i (get_or sizes i 0) small (omega arith) (each i l).1 (eqb i (length sizes - 1)) ps p h)
       ∙ ih
       ∙ append_assoc ps (crate_packets x.closed) (crate_packets rest)
-      ∙ ap (λ (r : List CratePacket). ps ++ r) (sym (ap crate_packets (plan_step room sizes i p l) ∙ map_append as_crate_packet x.closed rest))
+      ∙ ap (λ (r : List CratePacket). ps ++ r) (sym (ap crate_packets (plan_step room sizes i p l) ∙ map-append as_crate_packet x.closed rest))
 
   from_same : (k i : ℕ) (ps : List CratePacket) (p : PacketMetadata) → i + k ≡ length sizes → get_or sizes (i - 1) 0 ≤ largest_value → Ends room sizes i p
       → packetize_from room (length sizes) i (drop i sizes) (vector room ps p) ≡ ps ++ crate_packets (plan_from room i (drop i sizes) p)

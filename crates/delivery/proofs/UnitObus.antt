@@ -4,7 +4,7 @@ use Prim.Native.Nat.{ℕ, zero, suc, ◌+◌, ◌-◌, ◌≤◌, ◌<◌}
 use native.Mathlib.Numerals.{add-one}
 use native.Mathlib.Omega.{arith}
 use mathlib.Core.List.{List, [], ◌∷◌, ◌++◌, map}
-use mathlib.Core.Bool.{Bool, true, false, cond, ◌&&◌, and_true, and-false, and_assoc}
+use mathlib.Core.Bool.{Bool, true, false, cond, ◌&&◌, and-true, and-false, and_assoc}
 use lib.ListN.{length, get_or, take, drop, length-map}
 use lib.Seq.{take_all, take-add}
 use lib.Dec.{ltb, leb}
@@ -95,7 +95,7 @@ module _ (unit : List ℕ) (test : ℕ → Bool) where
     headed_end : (w : Bool) (i j : ℕ) → carries p i ≡ true → packets_of (suc k) ps i ≡ []
         → cond (w && test k) (sent_at unit i ∷ rest k (p ∷ ps) (suc i) j) (rest k (p ∷ ps) (suc i) j) ≡ headed w k (p ∷ ps) i (suc j)
     unfolding headed passes every
-    headed_end w i j c e = rw (passes_in i c, e, and_true (test k))
+    headed_end w i j c e = rw (passes_in i c, e, and-true (test k))
 
 -- ---- the pieces of a record
 

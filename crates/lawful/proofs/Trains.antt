@@ -8,7 +8,7 @@ use Prim.Native.Nat.{ℕ, suc, ◌+◌, ◌<◌}
 use native.Mathlib.Nat.{add-zero, add-suc, suc-add}
 use native.Mathlib.Omega.{arith}
 use mathlib.Core.List.{List, [], ◌∷◌, ◌++◌, map, append_assoc, append-nil}
-use mathlib.Core.Bool.{Bool, true, false, not, ◌&&◌, and_true, and_assoc, false≢true}
+use mathlib.Core.Bool.{Bool, true, false, not, ◌&&◌, and-true, and_assoc, false≢true}
 use lib.ListN.{length}
 use Rattle.base.specs.Lists.{All}
 use Rattle.base.proofs.Lists.{length_snoc, all_append, all_snoc, map_append}
@@ -23,7 +23,7 @@ join_portion (p ∷ ps) k b = rw (join_portion ps k b, append_assoc)
 
 pub whole_portion : (test : ℕ → Bool) (ps : List Portion) (k : ℕ) (b : List ℕ) → whole test (ps ++ (portion k b ∷ [])) ≡ whole test ps && test k
 unfolding whole
-whole_portion test [] k b = and_true (test k)
+whole_portion test [] k b = and-true (test k)
 whole_portion test (p ∷ ps) k b = rw (whole_portion test ps k b, and_assoc)
 
 -- ---- no packet has an empty element

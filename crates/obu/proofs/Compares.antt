@@ -5,7 +5,7 @@ use mathlib.Core.Path.{◌≡◌, refl, sym, ap, ap₂, ◌∙◌}
 use Prim.Native.Nat.{ℕ, ◌+◌, ◌*◌, ◌≤◌, ◌<◌}
 use native.Mathlib.Omega.{arith}
 use mathlib.Core.List.{List, [], ◌∷◌, ◌++◌, flat_map}
-use mathlib.Core.Bool.{Bool, true, false, cond, not, ◌&&◌, and_true, and_assoc}
+use mathlib.Core.Bool.{Bool, true, false, cond, not, ◌&&◌, and-true, and_assoc}
 use lib.ListN.{length, take, drop, length-drop}
 use lib.Seq.{drop-drop}
 use Rattle.base.specs.Answers.{Answer, given, refused, if_same}
@@ -92,7 +92,7 @@ module _ {unit l : List ℕ} {at n : ℕ} {same : Bool} (w : Compared unit l at 
   unfolding flat_map
   all_compared h =
       let over : kept_from unit at ≡ [] = ap (λ (s : Scan). records_of (keep is_kept s.items)) (nothing_left w.walk h) ∙ rw (keep_none is_kept) in
-      w.agrees ∙ rw (over, is_front_none (drop (n * obu_numbers) l)) (and_true same)
+      w.agrees ∙ rw (over, is_front_none (drop (n * obu_numbers) l)) (and-true same)
 
   module _ (small : length unit ≤ unit_limit) where
     pub compared_stop : {k : ℕ} → stopped k ≡ front_of (drop at unit) → at < length unit → refused k at ≡ same_list unit l

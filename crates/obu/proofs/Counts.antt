@@ -2,7 +2,7 @@
 use mathlib.Core.Path.{◌≡◌, refl, sym, ap, ap₂, ◌∙◌}
 use Prim.Native.Nat.{ℕ, ◌+◌, ◌-◌, ◌≤◌, ◌<◌}
 use native.Mathlib.Omega.{arith}
-use mathlib.Core.List.{List, [], ◌∷◌, ◌++◌, map, map_append}
+use mathlib.Core.List.{List, [], ◌∷◌, ◌++◌, map, map-append}
 use mathlib.Core.Bool.{Bool, true, false, cond}
 use lib.ListN.{length, get_or, drop, length-append, length-map}
 use lib.Seq.{get_or_at}
@@ -88,7 +88,7 @@ module _ {unit : List ℕ} {space at left padded : ℕ} (w : Counted unit space 
         let c : length kept ≡ space = omega (arith, w.walk.counted, w.shared) in
         let long : space < length (kept_of unit) = rw k (omega (arith, length-append kept (placed at f ∷ rest))) in
         let a : get_or (map (λ (p : Placed). p.at) (kept_of unit)) space 0 ≡ at =
-        rw (k, map_append (λ (p : Placed). p.at) kept (placed at f ∷ rest)) (get_or_at (map (λ (p : Placed). p.at) kept) at (map (λ (p : Placed). p.at) rest) 0 space (length-map kept (λ (p : Placed). p.at) ∙ c)) in
+        rw (k, map-append (λ (p : Placed). p.at) kept (placed at f ∷ rest)) (get_or_at (map (λ (p : Placed). p.at) kept) at (map (λ (p : Placed). p.at) rest) 0 space (length-map kept (λ (p : Placed). p.at) ∙ c)) in
         ap (refused 8) (sym a) ∙ sym (listed_full unit space u long)
 
   -- ---- nothing more is found

@@ -38,7 +38,7 @@ module _ (l : List ℕ) (i : ℕ) (h : i < length l / obu_numbers) where
 
   pub obu_in : obu_of (get_or l (i * obu_numbers) 0 ∷ number_at 1 ∷ number_at 2 ∷ number_at 3 ∷ number_at 4 ∷ []) ≡ get_or (obus_in l) i no_obu
   obu_in =
-      rw (records.record-at obu_numbers obu_of l i no_obu h, get_or-drop (i * obu_numbers) l 0 0, add-zero)
+      rw (records.record_at_lem obu_numbers obu_of l i no_obu h, get_or-drop (i * obu_numbers) l 0 0, add-zero)
       (simp get_or-drop)
 
 -- ---- records written as numbers, and read back

@@ -2,7 +2,7 @@
 use mathlib.Core.Path.{◌≡◌, refl, sym, ap, ◌∙◌}
 use Prim.Native.Nat.{ℕ, ◌+◌, ◌*◌, ◌≤◌, ◌<◌}
 use native.Mathlib.Omega.{arith}
-use mathlib.Core.List.{List, [], ◌∷◌, ◌++◌, map_append, flat_map}
+use mathlib.Core.List.{List, [], ◌∷◌, ◌++◌, map-append, flat_map}
 use mathlib.Core.Bool.{true, false}
 use lib.ListN.{length, drop, length-map}
 use lib.Seq.{sets}
@@ -35,7 +35,7 @@ more_wrote {l} before ps p {n} c room w =
     let k : length (flat (records_of ps)) ≡ n * obu_numbers = flat_length (records_of ps) ∙ ap (λ (i : ℕ). i * obu_numbers) (length-map ps (λ (q : Placed). q.obu) ∙ c) in
     ap (λ (x : List ℕ). sets x (n * obu_numbers) (numbers_of p.obu)) w
     ∙ front_sets (flat (records_of ps)) (numbers_of p.obu) before (n * obu_numbers) k (omega arith)
-    ∙ ap (λ (x : List ℕ). front x before) (sym (flat_snoc (records_of ps) p.obu) ∙ ap flat (sym (map_append (λ (q : Placed). q.obu) ps (p ∷ []))))
+    ∙ ap (λ (x : List ℕ). front x before) (sym (flat_snoc (records_of ps) p.obu) ∙ ap flat (sym (map-append (λ (q : Placed). q.obu) ps (p ∷ []))))
 
 module _ {unit before l : List ℕ} {at n : ℕ} (w : Stored unit before l at n) where
   -- ---- an OBU was found

@@ -29,7 +29,7 @@ module _ (l : List ℕ) (k : ℕ) (h : k < length l / plan_numbers) where
 
   pub packet_in_lem : packet_record (get_or l (k * plan_numbers) 0 ∷ number_at 1 ∷ number_at 2 ∷ number_at 3 ∷ number_at 4 ∷ number_at 5 ∷ []) ≡ get_or (packets_in l) k no_packet
   packet_in_lem =
-      rw (records.record-at plan_numbers packet_record l k no_packet h, get_or-drop (k * plan_numbers) l 0 0, add-zero)
+      rw (records.record_at_lem plan_numbers packet_record l k no_packet h, get_or-drop (k * plan_numbers) l 0 0, add-zero)
       (simp get_or-drop)
 
 -- records written as numbers are read back

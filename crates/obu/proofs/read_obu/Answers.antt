@@ -16,23 +16,6 @@ use Rattle.obu.proofs.Fronts.{same_first, same_field, front_3, front_headed, fro
 use borrow.Author.Rules.{rules}
 use Rattle.obu.proofs.read_obu.Goals as goal
 
--- after the header bytes, for all bytes that begin so
-known : (c : tie.After-extension-byte) (all : List ℕ) → take head_bytes all ≡ take head_bytes c.before.before.before.before.before.args.bytes.now → length all ≡ c.before.before.before.before.before.args.total →
-    front_of all ≡ headed (get_or c.before.before.before.before.before.args.bytes.now 0 0) c.extension-byte.result (drop c.before.before.header-size.result all)
-known c all e l =
-    let b = c.before.before.before.before.before.args.bytes.now in
-    front_headed all (get_or b 0 0) c.extension-byte.result c.before.before.header-size.result (sym (same_first all b e 0 (omega arith))) c.before.before.header-size.ensures (omega arith)
-    (c.extension-byte.ensures ∙ ap (λ (x : ℕ). cond (eqb (extension_bit (get_or b 0 0)) 1) x 0) (sym (same_first all b e 1 (omega arith))))
-
--- what is left after the header bytes
-left : (c : tie.After-extension-byte) (all : List ℕ) → length all ≡ c.before.before.before.before.before.args.total →
-    length (drop c.before.before.header-size.result all) ≡ c.before.before.before.before.before.args.total - c.before.before.header-size.result
-left c all l = length-drop c.before.before.header-size.result all ∙ ap (λ (n : ℕ). n - c.before.before.header-size.result) l
-
-field : (c : tie.After-read-leb128) (all : List ℕ) → take head_bytes all ≡ take head_bytes c.before.before.before.before.before.before.before.before.before.before.args.bytes.now →
-    paper c.read-leb128.result ≡ size_answer (drop c.before.before.before.before.before.before.before.header-size.result all)
-field c all e = read c ∙ ap answer_by (sym (same_field all c.before.before.before.before.before.before.before.before.before.before.args.bytes.now e c.before.before.before.before.before.before.before.header-size.result (omega arith)))
-
 pub returns-then-total-after : goal.returns-then-total-after
 returns-then-total-after c = λ all e l.
     let b = c.args.bytes.now in
@@ -40,8 +23,11 @@ returns-then-total-after c = λ all e l.
     sym (front_3 all (omega arith) (rw h (omega arith)))
 
 pub returns-then-left-eq0 : goal.returns-then-left-eq0
-returns-then-left-eq0 c = λ all e l.
-    front_4 all _ _ c.header_size-after.result _ (known c all e l) (left c all l) (sym c.obu_has_size.ensures ∙ c.if-obu_has_size.true) c.if-left-eq0.true
+returns-then-left-eq0 c =
+    let known : (all : List ℕ) → take head_bytes all ≡ take head_bytes c.args.bytes.now → length all ≡ c.args.total → front_of all ≡ headed (get_or c.args.bytes.now 0 0) c.extension_byte-extension.result (drop c.header_size-after.result all) = λ (all : List ℕ) e l. let b = c.args.bytes.now in front_headed all (get_or b 0 0) c.extension_byte-extension.result c.header_size-after.result (sym (same_first all b e 0 (omega arith))) c.header_size-after.ensures (omega arith) (c.extension_byte-extension.ensures ∙ ap (λ (x : ℕ). cond (eqb (extension_bit (get_or b 0 0)) 1) x 0) (sym (same_first all b e 1 (omega arith)))) in
+    let left : (all : List ℕ) → length all ≡ c.args.total → length (drop c.header_size-after.result all) ≡ c.args.total - c.header_size-after.result = λ (all : List ℕ) l. length-drop c.header_size-after.result all ∙ ap (λ (n : ℕ). n - c.header_size-after.result) l in
+    λ all e l.
+    front_4 all _ _ c.header_size-after.result _ (known all e l) (left all l) (sym c.obu_has_size.ensures ∙ c.if-obu_has_size.true) c.if-left-eq0.true
 
 pub overflow_sub-left-in-Read : goal.overflow_sub-left-in-Read
 overflow_sub-left-in-Read c =
@@ -50,22 +36,40 @@ overflow_sub-left-in-Read c =
     omega (arith, size_within _ v.value v.used (read_says _ (sym (ap paper c.in-Read.is) ∙ read)), length-drop c.header_size-after.result c.args.bytes.now)
 
 pub returns-then-payload-left : goal.returns-then-payload-left
-returns-then-payload-left c = λ all e l.
+returns-then-payload-left c =
+    let known : (all : List ℕ) → take head_bytes all ≡ take head_bytes c.args.bytes.now → length all ≡ c.args.total → front_of all ≡ headed (get_or c.args.bytes.now 0 0) c.extension_byte-extension.result (drop c.header_size-after.result all) = λ (all : List ℕ) e l. let b = c.args.bytes.now in front_headed all (get_or b 0 0) c.extension_byte-extension.result c.header_size-after.result (sym (same_first all b e 0 (omega arith))) c.header_size-after.ensures (omega arith) (c.extension_byte-extension.ensures ∙ ap (λ (x : ℕ). cond (eqb (extension_bit (get_or b 0 0)) 1) x 0) (sym (same_first all b e 1 (omega arith)))) in
+    let left : (all : List ℕ) → length all ≡ c.args.total → length (drop c.header_size-after.result all) ≡ c.args.total - c.header_size-after.result = λ (all : List ℕ) l. length-drop c.header_size-after.result all ∙ ap (λ (n : ℕ). n - c.header_size-after.result) l in
+    let read : paper c.read_leb128.result ≡ size_answer (drop c.header_size-after.result c.args.bytes.now) = c.read_leb128.ensures ∙ ap size_answer (part_from c.args.bytes.now c.header_size-after.result (omega arith)) in
+    let field : (all : List ℕ) → take head_bytes all ≡ take head_bytes c.args.bytes.now → paper c.read_leb128.result ≡ size_answer (drop c.header_size-after.result all) = λ (all : List ℕ) e. read ∙ ap answer_by (sym (same_field all c.args.bytes.now e c.header_size-after.result (omega arith))) in
+    λ all e l.
     let v = c.in-Read.size in
-    front_in all _ _ c.header_size-after.result _ (known c all e l) (left c all l) (sym c.obu_has_size.ensures ∙ c.if-obu_has_size.true) c.if-left-eq0.false v.value v.used
-    (read_says _ (sym (ap paper c.in-Read.is) ∙ field c all e)) c.if-payload-left.true
+    front_in all _ _ c.header_size-after.result _ (known all e l) (left all l) (sym c.obu_has_size.ensures ∙ c.if-obu_has_size.true) c.if-left-eq0.false v.value v.used
+    (read_says _ (sym (ap paper c.in-Read.is) ∙ field all e)) c.if-payload-left.true
 
 pub returns-else-payload-left : goal.returns-else-payload-left
-returns-else-payload-left c = λ all e l.
+returns-else-payload-left c =
+    let known : (all : List ℕ) → take head_bytes all ≡ take head_bytes c.args.bytes.now → length all ≡ c.args.total → front_of all ≡ headed (get_or c.args.bytes.now 0 0) c.extension_byte-extension.result (drop c.header_size-after.result all) = λ (all : List ℕ) e l. let b = c.args.bytes.now in front_headed all (get_or b 0 0) c.extension_byte-extension.result c.header_size-after.result (sym (same_first all b e 0 (omega arith))) c.header_size-after.ensures (omega arith) (c.extension_byte-extension.ensures ∙ ap (λ (x : ℕ). cond (eqb (extension_bit (get_or b 0 0)) 1) x 0) (sym (same_first all b e 1 (omega arith)))) in
+    let left : (all : List ℕ) → length all ≡ c.args.total → length (drop c.header_size-after.result all) ≡ c.args.total - c.header_size-after.result = λ (all : List ℕ) l. length-drop c.header_size-after.result all ∙ ap (λ (n : ℕ). n - c.header_size-after.result) l in
+    let read : paper c.read_leb128.result ≡ size_answer (drop c.header_size-after.result c.args.bytes.now) = c.read_leb128.ensures ∙ ap size_answer (part_from c.args.bytes.now c.header_size-after.result (omega arith)) in
+    let field : (all : List ℕ) → take head_bytes all ≡ take head_bytes c.args.bytes.now → paper c.read_leb128.result ≡ size_answer (drop c.header_size-after.result all) = λ (all : List ℕ) e. read ∙ ap answer_by (sym (same_field all c.args.bytes.now e c.header_size-after.result (omega arith))) in
+    λ all e l.
     let v = c.in-Read.size in
-    front_past all _ _ c.header_size-after.result _ (known c all e l) (left c all l) (sym c.obu_has_size.ensures ∙ c.if-obu_has_size.true) c.if-left-eq0.false v.value v.used
-    (read_says _ (sym (ap paper c.in-Read.is) ∙ field c all e)) c.if-payload-left.false
+    front_past all _ _ c.header_size-after.result _ (known all e l) (left all l) (sym c.obu_has_size.ensures ∙ c.if-obu_has_size.true) c.if-left-eq0.false v.value v.used
+    (read_says _ (sym (ap paper c.in-Read.is) ∙ field all e)) c.if-payload-left.false
 
 pub returns-in-Refused : goal.returns-in-Refused
-returns-in-Refused c = λ all e l.
-    front_bad all _ _ c.header_size-after.result _ (known c all e l) (left c all l) (sym c.obu_has_size.ensures ∙ c.if-obu_has_size.true) c.if-left-eq0.false _
-    (unread_says _ (sym (ap paper c.in-Refused.is) ∙ field c all e))
+returns-in-Refused c =
+    let known : (all : List ℕ) → take head_bytes all ≡ take head_bytes c.args.bytes.now → length all ≡ c.args.total → front_of all ≡ headed (get_or c.args.bytes.now 0 0) c.extension_byte-extension.result (drop c.header_size-after.result all) = λ (all : List ℕ) e l. let b = c.args.bytes.now in front_headed all (get_or b 0 0) c.extension_byte-extension.result c.header_size-after.result (sym (same_first all b e 0 (omega arith))) c.header_size-after.ensures (omega arith) (c.extension_byte-extension.ensures ∙ ap (λ (x : ℕ). cond (eqb (extension_bit (get_or b 0 0)) 1) x 0) (sym (same_first all b e 1 (omega arith)))) in
+    let left : (all : List ℕ) → length all ≡ c.args.total → length (drop c.header_size-after.result all) ≡ c.args.total - c.header_size-after.result = λ (all : List ℕ) l. length-drop c.header_size-after.result all ∙ ap (λ (n : ℕ). n - c.header_size-after.result) l in
+    let read : paper c.read_leb128.result ≡ size_answer (drop c.header_size-after.result c.args.bytes.now) = c.read_leb128.ensures ∙ ap size_answer (part_from c.args.bytes.now c.header_size-after.result (omega arith)) in
+    let field : (all : List ℕ) → take head_bytes all ≡ take head_bytes c.args.bytes.now → paper c.read_leb128.result ≡ size_answer (drop c.header_size-after.result all) = λ (all : List ℕ) e. read ∙ ap answer_by (sym (same_field all c.args.bytes.now e c.header_size-after.result (omega arith))) in
+    λ all e l.
+    front_bad all _ _ c.header_size-after.result _ (known all e l) (left all l) (sym c.obu_has_size.ensures ∙ c.if-obu_has_size.true) c.if-left-eq0.false _
+    (unread_says _ (sym (ap paper c.in-Refused.is) ∙ field all e))
 
 pub returns-else-obu_has_size : goal.returns-else-obu_has_size
-returns-else-obu_has_size c = λ all e l.
-    front_rest all _ _ c.header_size-after.result _ (known c all e l) (left c all l) (sym c.obu_has_size.ensures ∙ c.if-obu_has_size.false)
+returns-else-obu_has_size c =
+    let known : (all : List ℕ) → take head_bytes all ≡ take head_bytes c.args.bytes.now → length all ≡ c.args.total → front_of all ≡ headed (get_or c.args.bytes.now 0 0) c.extension_byte-extension.result (drop c.header_size-after.result all) = λ (all : List ℕ) e l. let b = c.args.bytes.now in front_headed all (get_or b 0 0) c.extension_byte-extension.result c.header_size-after.result (sym (same_first all b e 0 (omega arith))) c.header_size-after.ensures (omega arith) (c.extension_byte-extension.ensures ∙ ap (λ (x : ℕ). cond (eqb (extension_bit (get_or b 0 0)) 1) x 0) (sym (same_first all b e 1 (omega arith)))) in
+    let left : (all : List ℕ) → length all ≡ c.args.total → length (drop c.header_size-after.result all) ≡ c.args.total - c.header_size-after.result = λ (all : List ℕ) l. length-drop c.header_size-after.result all ∙ ap (λ (n : ℕ). n - c.header_size-after.result) l in
+    λ all e l.
+    front_rest all _ _ c.header_size-after.result _ (known all e l) (left all l) (sym c.obu_has_size.ensures ∙ c.if-obu_has_size.false)

@@ -87,6 +87,12 @@ loop-at-smaller c =
     let spanned : c.loop-at.at + span_of (front) ≤ length c.args.unit.now = spans c.loop-at.invariant.walk (seen) c.loop-at-test.true in
     omega (arith, spanned, c.span.ensures)
 
+pub shape_of-obus : goal.shape_of-obus
+shape_of-obus c = c.loop-at.invariant.same
+
+pub returns : goal.returns
+returns c = stored_end c.loop-at.invariant c.loop-at-test.false
+
 pub loop-at-preserved : goal.loop-at-preserved
 loop-at-preserved c =
     let front : Front = paper_head c.in-Found.head in
@@ -94,10 +100,4 @@ loop-at-preserved c =
     let seen : found (front) ≡ front_of (drop c.loop-at.at c.args.unit.now) = sym (ap paper_read c.in-Found.is) ∙ read in
     let dropped : drops (type_of (front).header) ≡ c.should_ignore_obu_type.result = sym (c.should_ignore_obu_type.ensures ∙ ap drops c.obu_type.ensures) in
     rw c.span.ensures
-    (stored_keep c.loop-at.invariant (seen) c.loop-at-test.true (dropped ∙ c.if-should_ignore_obu_type.false) c.requires.2 c.record_at.ensures c.put_obu.auto.0 c.put_obu.ensures)
-
-pub shape_of-obus : goal.shape_of-obus
-shape_of-obus c = c.loop-at.invariant.same
-
-pub returns : goal.returns
-returns c = stored_end c.loop-at.invariant c.loop-at-test.false
+    (stored_keep c.loop-at.invariant (seen) c.loop-at-test.true (dropped ∙ c.if-should_ignore_obu_type.false) c.requires.2 c.record_at.ensures c.put_obu.auto.obus c.put_obu.ensures)
