@@ -19,9 +19,6 @@ use Rattle.handing.proofs.Wires.{sizes_one}
 use Rattle.handing.proofs.Turns.{Handing, handing_first, handing_end, handing_part, handing_size, handing_most, handing_room, handing_broken, handing_next, counted_given, counted_refused}
 use Rattle.handing.proofs.hand_out.Goals as goal
 
-abbrev Place-start : Type 0
-Place-start = tie.Start invariant-loop decreases-loop
-
 pub bounds-payload-0 : goal.bounds-payload-0
 bounds-payload-0 c = payload_some c.args.payload.now (parts_of c.args.payload.now) c.requires.0.whole
 
@@ -30,28 +27,23 @@ loop-i-init c = handing_first c.requires.0 _ _
 
 pub part_at-part-requires : goal.part_at-part-requires
 part_at-part-requires c =
-    let at-start : Place-start = c in
-    let start : Place-start = at-start in
-    let some : c.loop-i.i < length (parts_of (start).args.payload.now) = omega (arith, c.loop-i-test.true, (start).requires.0.to_in) in
-    let seen : let l = (start).args.payload.now in let v = c.loop-i in element_at c.has_field.result v.at (drop v.at l) ≡ given (get_or (parts_of l) v.i nowhere) = let l = (start).args.payload.now in let v = c.loop-i in ap (λ (c : Bool). element_at c v.at (drop v.at l)) (c.has_field.ensures ∙ ap (λ (w : ℕ). has_field w v.i) c.header_w-w.ensures) ∙ ap (λ (n : ℕ). element_at (has_field (w_of (get_or l 0 0)) v.i) n (drop n l)) v.invariant.cursor ∙ read_at l (parts_of l) (start).pre.0.whole v.i (some) in
-    let s = at-start in
-    let ps = parts_of s.args.payload.now in
+    let some : c.loop-i.i < length (parts_of c.args.payload.now) = omega (arith, c.loop-i-test.true, c.requires.0.to_in) in
+    let seen : let l = c.args.payload.now in let v = c.loop-i in element_at c.has_field.result v.at (drop v.at l) ≡ given (get_or (parts_of l) v.i nowhere) = let l = c.args.payload.now in let v = c.loop-i in ap (λ (c : Bool). element_at c v.at (drop v.at l)) (c.has_field.ensures ∙ ap (λ (w : ℕ). has_field w v.i) c.header_w-w.ensures) ∙ ap (λ (n : ℕ). element_at (has_field (w_of (get_or l 0 0)) v.i) n (drop n l)) v.invariant.cursor ∙ read_at l (parts_of l) c.requires.0.whole v.i (some) in
+    let ps = parts_of c.args.payload.now in
     record {
-      inside = rw c.loop-i.invariant.cursor (cursor_inside s.args.payload.now ps s.pre.0.whole c.loop-i.i c.loop-i.invariant.within);
+      inside = rw c.loop-i.invariant.cursor (cursor_inside c.args.payload.now ps c.requires.0.whole c.loop-i.i c.loop-i.invariant.within);
       part = get_or ps c.loop-i.i nowhere;
       is = seen;
     }
 
 pub finish_obu-requires : goal.finish_obu-requires
 finish_obu-requires c =
-    let at-start : Place-start = c in
-    let start : Place-start = at-start in
     let part : Part = c.part_at-part.result in
-    let some : c.loop-i.i < length (parts_of (start).args.payload.now) = omega (arith, c.loop-i-test.true, (start).requires.0.to_in) in
-    let seen : let l = (start).args.payload.now in let v = c.loop-i in element_at c.has_field.result v.at (drop v.at l) ≡ given (get_or (parts_of l) v.i nowhere) = let l = (start).args.payload.now in let v = c.loop-i in ap (λ (c : Bool). element_at c v.at (drop v.at l)) (c.has_field.ensures ∙ ap (λ (w : ℕ). has_field w v.i) c.header_w-w.ensures) ∙ ap (λ (n : ℕ). element_at (has_field (w_of (get_or l 0 0)) v.i) n (drop n l)) v.invariant.cursor ∙ read_at l (parts_of l) (start).pre.0.whole v.i (some) in
-    let here : part ≡ get_or (parts_of (start).args.payload.now) c.loop-i.i nowhere = let e : given (part) ≡ given (get_or (parts_of (start).args.payload.now) c.loop-i.i nowhere) = c.part_at-part.ensures ∙ seen in cc in
+    let some : c.loop-i.i < length (parts_of c.args.payload.now) = omega (arith, c.loop-i-test.true, c.requires.0.to_in) in
+    let seen : let l = c.args.payload.now in let v = c.loop-i in element_at c.has_field.result v.at (drop v.at l) ≡ given (get_or (parts_of l) v.i nowhere) = let l = c.args.payload.now in let v = c.loop-i in ap (λ (c : Bool). element_at c v.at (drop v.at l)) (c.has_field.ensures ∙ ap (λ (w : ℕ). has_field w v.i) c.header_w-w.ensures) ∙ ap (λ (n : ℕ). element_at (has_field (w_of (get_or l 0 0)) v.i) n (drop n l)) v.invariant.cursor ∙ read_at l (parts_of l) c.requires.0.whole v.i (some) in
+    let here : part ≡ get_or (parts_of c.args.payload.now) c.loop-i.i nowhere = let e : given (part) ≡ given (get_or (parts_of c.args.payload.now) c.loop-i.i nowhere) = c.part_at-part.ensures ∙ seen in cc in
     let v = c.loop-i.invariant in
-    let p = (start).pre in
+    let p = c.requires in
     let l = handing_part v p.0.whole (here) c.loop-i-test.true (some) in
     let z = handing_size v p.0.whole (here) c.loop-i-test.true (some) in (
       record { stored = v.stored; lies = omega (arith, l); some = l.some; small = omega (arith, z) },
@@ -59,67 +51,57 @@ finish_obu-requires c =
     )
 
 pub shape_of-out-in-Refused : goal.shape_of-out-in-Refused
-shape_of-out-in-Refused c = c.finish_obu.auto.1.1.1.0 ∙ c.loop-i.invariant.same
+shape_of-out-in-Refused c = c.finish_obu.auto.out.1.1.0 ∙ c.loop-i.invariant.same
 
 pub returns-in-Refused : goal.returns-in-Refused
 returns-in-Refused c =
-    let at-start : Place-start = c in
-    let start : Place-start = at-start in
     let part : Part = c.part_at-part.result in
-    let some : c.loop-i.i < length (parts_of (start).args.payload.now) = omega (arith, c.loop-i-test.true, (start).requires.0.to_in) in
-    let seen : let l = (start).args.payload.now in let v = c.loop-i in element_at c.has_field.result v.at (drop v.at l) ≡ given (get_or (parts_of l) v.i nowhere) = let l = (start).args.payload.now in let v = c.loop-i in ap (λ (c : Bool). element_at c v.at (drop v.at l)) (c.has_field.ensures ∙ ap (λ (w : ℕ). has_field w v.i) c.header_w-w.ensures) ∙ ap (λ (n : ℕ). element_at (has_field (w_of (get_or l 0 0)) v.i) n (drop n l)) v.invariant.cursor ∙ read_at l (parts_of l) (start).pre.0.whole v.i (some) in
-    let here : part ≡ get_or (parts_of (start).args.payload.now) c.loop-i.i nowhere = let e : given (part) ≡ given (get_or (parts_of (start).args.payload.now) c.loop-i.i nowhere) = c.part_at-part.ensures ∙ seen in cc in
-    let p = (start).pre in
+    let some : c.loop-i.i < length (parts_of c.args.payload.now) = omega (arith, c.loop-i-test.true, c.requires.0.to_in) in
+    let seen : let l = c.args.payload.now in let v = c.loop-i in element_at c.has_field.result v.at (drop v.at l) ≡ given (get_or (parts_of l) v.i nowhere) = let l = c.args.payload.now in let v = c.loop-i in ap (λ (c : Bool). element_at c v.at (drop v.at l)) (c.has_field.ensures ∙ ap (λ (w : ℕ). has_field w v.i) c.header_w-w.ensures) ∙ ap (λ (n : ℕ). element_at (has_field (w_of (get_or l 0 0)) v.i) n (drop n l)) v.invariant.cursor ∙ read_at l (parts_of l) c.requires.0.whole v.i (some) in
+    let here : part ≡ get_or (parts_of c.args.payload.now) c.loop-i.i nowhere = let e : given (part) ≡ given (get_or (parts_of c.args.payload.now) c.loop-i.i nowhere) = c.part_at-part.ensures ∙ seen in cc in
+    let p = c.requires in
     handing_broken c.loop-i.invariant p.0.whole (here) c.loop-i-test.true (some) _ _ p.1
     (counted_refused _ _ (sym (ap paper_handed c.in-Refused.is) ∙ c.finish_obu.ensures.0)) _ c.finish_obu.ensures.1
 
 pub together-sum-requires : goal.together-sum-requires
 together-sum-requires c =
-    let at-start : Place-start = c in
-    let start : Place-start = at-start in
     let part : Part = c.part_at-part.result in
-    let obu : List ℕ = let a = (start).args in across a.store.now c.loop-i.auto a.payload.now (part).start (part).length in
+    let obu : List ℕ = let a = c.args in across a.store.now c.loop-i.auto a.payload.now (part).start (part).length in
     let bytesOut : (b : List ℕ) × (wire (obu) ≡ given b) × (c.in-Bytes.one ≡ handed_of (cond (padded_size (obu)) 1 0) b) = counted_given _ (sym (ap paper_handed c.in-Bytes.is) ∙ c.finish_obu.ensures.0) in
-    let some : c.loop-i.i < length (parts_of (start).args.payload.now) = omega (arith, c.loop-i-test.true, (start).requires.0.to_in) in
-    let seen : let l = (start).args.payload.now in let v = c.loop-i in element_at c.has_field.result v.at (drop v.at l) ≡ given (get_or (parts_of l) v.i nowhere) = let l = (start).args.payload.now in let v = c.loop-i in ap (λ (c : Bool). element_at c v.at (drop v.at l)) (c.has_field.ensures ∙ ap (λ (w : ℕ). has_field w v.i) c.header_w-w.ensures) ∙ ap (λ (n : ℕ). element_at (has_field (w_of (get_or l 0 0)) v.i) n (drop n l)) v.invariant.cursor ∙ read_at l (parts_of l) (start).pre.0.whole v.i (some) in
-    let here : part ≡ get_or (parts_of (start).args.payload.now) c.loop-i.i nowhere = let e : given (part) ≡ given (get_or (parts_of (start).args.payload.now) c.loop-i.i nowhere) = c.part_at-part.ensures ∙ seen in cc in
+    let some : c.loop-i.i < length (parts_of c.args.payload.now) = omega (arith, c.loop-i-test.true, c.requires.0.to_in) in
+    let seen : let l = c.args.payload.now in let v = c.loop-i in element_at c.has_field.result v.at (drop v.at l) ≡ given (get_or (parts_of l) v.i nowhere) = let l = c.args.payload.now in let v = c.loop-i in ap (λ (c : Bool). element_at c v.at (drop v.at l)) (c.has_field.ensures ∙ ap (λ (w : ℕ). has_field w v.i) c.header_w-w.ensures) ∙ ap (λ (n : ℕ). element_at (has_field (w_of (get_or l 0 0)) v.i) n (drop n l)) v.invariant.cursor ∙ read_at l (parts_of l) c.requires.0.whole v.i (some) in
+    let here : part ≡ get_or (parts_of c.args.payload.now) c.loop-i.i nowhere = let e : given (part) ≡ given (get_or (parts_of c.args.payload.now) c.loop-i.i nowhere) = c.part_at-part.ensures ∙ seen in cc in
     let b = bytesOut in
     let v = c.loop-i.invariant in
-    let w = (start).pre.0.whole in
+    let w = c.requires.0.whole in
     let l = handing_part v w (here) c.loop-i-test.true (some) in
     let m = handing_most v w (here) c.loop-i-test.true (some) b.0 b.1 in
-    let s = payload_small (start).args.payload.now (parts_of (start).args.payload.now) w in (
+    let s = payload_small c.args.payload.now (parts_of c.args.payload.now) w in (
       omega (arith, ap (λ (h : Handed). h.bytes) b.2, l, m, v.bound, s),
       omega (arith, ap (λ (h : Handed). h.padded) b.2, l, sizes_one (obu), v.few, s),
     )
 
 pub overflow_add-i : goal.overflow_add-i
 overflow_add-i c =
-    let at-start : Place-start = c in
-    let start : Place-start = at-start in
-    let some : c.loop-i.i < length (parts_of (start).args.payload.now) = omega (arith, c.loop-i-test.true, (start).requires.0.to_in) in
-    omega (arith, some, elements_few _ _ (start).pre.0.whole)
+    let some : c.loop-i.i < length (parts_of c.args.payload.now) = omega (arith, c.loop-i-test.true, c.requires.0.to_in) in
+    omega (arith, some, elements_few _ _ c.requires.0.whole)
 
 pub loop-i-smaller : goal.loop-i-smaller
 loop-i-smaller c = omega (arith, c.loop-i-test.true)
 
 pub loop-i-preserved : goal.loop-i-preserved
 loop-i-preserved c =
-    let at-start : Place-start = c in
-    let start : Place-start = at-start in
     let part : Part = c.part_at-part.result in
-    let obu : List ℕ = let a = (start).args in across a.store.now c.loop-i.auto a.payload.now (part).start (part).length in
+    let obu : List ℕ = let a = c.args in across a.store.now c.loop-i.auto a.payload.now (part).start (part).length in
     let bytesOut : (b : List ℕ) × (wire (obu) ≡ given b) × (c.in-Bytes.one ≡ handed_of (cond (padded_size (obu)) 1 0) b) = counted_given _ (sym (ap paper_handed c.in-Bytes.is) ∙ c.finish_obu.ensures.0) in
-    let some : c.loop-i.i < length (parts_of (start).args.payload.now) = omega (arith, c.loop-i-test.true, (start).requires.0.to_in) in
-    let seen : let l = (start).args.payload.now in let v = c.loop-i in element_at c.has_field.result v.at (drop v.at l) ≡ given (get_or (parts_of l) v.i nowhere) = let l = (start).args.payload.now in let v = c.loop-i in ap (λ (c : Bool). element_at c v.at (drop v.at l)) (c.has_field.ensures ∙ ap (λ (w : ℕ). has_field w v.i) c.header_w-w.ensures) ∙ ap (λ (n : ℕ). element_at (has_field (w_of (get_or l 0 0)) v.i) n (drop n l)) v.invariant.cursor ∙ read_at l (parts_of l) (start).pre.0.whole v.i (some) in
-    let here : part ≡ get_or (parts_of (start).args.payload.now) c.loop-i.i nowhere = let e : given (part) ≡ given (get_or (parts_of (start).args.payload.now) c.loop-i.i nowhere) = c.part_at-part.ensures ∙ seen in cc in
+    let some : c.loop-i.i < length (parts_of c.args.payload.now) = omega (arith, c.loop-i-test.true, c.requires.0.to_in) in
+    let seen : let l = c.args.payload.now in let v = c.loop-i in element_at c.has_field.result v.at (drop v.at l) ≡ given (get_or (parts_of l) v.i nowhere) = let l = c.args.payload.now in let v = c.loop-i in ap (λ (c : Bool). element_at c v.at (drop v.at l)) (c.has_field.ensures ∙ ap (λ (w : ℕ). has_field w v.i) c.header_w-w.ensures) ∙ ap (λ (n : ℕ). element_at (has_field (w_of (get_or l 0 0)) v.i) n (drop n l)) v.invariant.cursor ∙ read_at l (parts_of l) c.requires.0.whole v.i (some) in
+    let here : part ≡ get_or (parts_of c.args.payload.now) c.loop-i.i nowhere = let e : given (part) ≡ given (get_or (parts_of c.args.payload.now) c.loop-i.i nowhere) = c.part_at-part.ensures ∙ seen in cc in
     let b = bytesOut in
-    handing_next c.loop-i.invariant (start).pre.0.whole (here) c.loop-i-test.true (some) b.1 b.2 c.together-sum.ensures c.finish_obu.new.out c.finish_obu.ensures.1
+    handing_next c.loop-i.invariant c.requires.0.whole (here) c.loop-i-test.true (some) b.1 b.2 c.together-sum.ensures c.finish_obu.new.out c.finish_obu.ensures.1
 
 pub shape_of-out : goal.shape_of-out
 shape_of-out c = c.loop-i.invariant.same
 
 pub returns : goal.returns
-returns c =
-    let at-start : Place-start = c in
-    handing_end c.loop-i.invariant (at-start).pre.0.whole c.loop-i-test.false
+returns c = handing_end c.loop-i.invariant c.requires.0.whole c.loop-i-test.false

@@ -22,7 +22,7 @@ pub put_leb128-body-requires : goal.put_leb128-body-requires
 put_leb128-body-requires c =
     let spans : span_of (paper_head c.args.head) ≡ length (fragment_of c.args.store.now c.args.payload.now c.args.f) = let a = c.args in c.requires.0.1 ∙ sym (across_length a.store.now a.payload.now a.f.kept a.f.start a.f.size c.requires.0.0.stored c.requires.0.0.lies) in
     let room : let a = c.args in a.at + (header_length a.head.header + length (encode a.head.payload) + a.head.payload) ≤ length a.out.now = let a = c.args in let l = out_length (fragment_of a.store.now a.payload.now a.f) (paper_head a.head) (spans) in let r = c.requires.1 c.if-write.true in omega arith in
-    omega (arith, room, c.put_header-field.ensures.0, c.put_header-field.auto.0)
+    omega (arith, room, c.put_header-field.ensures.0, c.put_header-field.auto.out)
 
 pub copy_across-requires : goal.copy_across-requires
 copy_across-requires c =

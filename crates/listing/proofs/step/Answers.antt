@@ -7,50 +7,6 @@ use Rattle.listing.proofs.Turning.{wrote_none, came_is, came_few, ready_at, read
 use borrow.Author.Rules.{rules}
 use Rattle.listing.proofs.step.Goals as goal
 
-pub step_spec : {M : Type 1} → statement M
-step_spec =
-    tie.close
-    (tie.spec
-    enum_told
-    read-subject-requires
-    failed-step-requires
-    enum-told-2
-    failed-step-requires-2
-    enum-known-came
-    enum-told-3
-    slice-aggregate-head-step
-    head-step-requires
-    enum-told-4
-    slice-aggregate-unit-step
-    unit-step-requires
-    enum-told-5
-    slice-aggregate-further-step
-    further-step-requires
-    enum-known-wait
-    row-step-requires
-    enum-told-6
-    over-requires
-    same_length
-    returns
-    same-length-2
-    returns-2
-    same-length-3
-    returns-3
-    same-length-4
-    same-length-5
-    returns-4
-    same-length-6
-    same-length-7
-    same-length-8
-    same-length-9
-    returns-5
-    same-length-10
-    same-length-11
-    same-length-12
-    same-length-13
-    returns-6
-    returns-7)
-
 pub slice_bounds-head_step-end : goal.slice_bounds-head_step-end
 slice_bounds-head_step-end c = came_is c.requires c.in-Read.is
 

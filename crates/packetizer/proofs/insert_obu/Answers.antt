@@ -55,7 +55,7 @@ spread_obu-requires c =
     let cut_as : let a = c.args in insert a.room a.i a.size a.f.packet ≡ closing_then c.cut_at-cut.result (spread a.size a.room a.i a.size c.first_fragment_size-n.result) = let a = c.args in cut ∙ ap (λ (q : PacketMetadata). closing_then q (spread a.size a.room a.i a.size c.first_fragment_size-n.result)) (sym c.cut_at-cut.ensures) in
     let a = c.args in (
       omega (arith, c.requires.0, c.first_fragment_size-n.ensures, fragment_below a.room c.charge-q.result a.size),
-      rw c.start_after-start.ensures (closing_asks (cut_as) c.requires.1 _ c.put_record.auto.0),
+      rw c.start_after-start.ensures (closing_asks (cut_as) c.requires.1 _ c.put_record.auto.plan),
     )
 
 pub returns : goal.returns

@@ -73,7 +73,7 @@ loop-i-preserved c =
     let least : least_mtu ≤ c.args.mtu = omega (arith, c.if-mtu-lt-LEAST_MTU.false) in
     let inside : c.loop-i.i < length (of) = omega (arith, c.loop-i-test.true, sizes_count c.args.obus.now) in
     placing_next c.loop-i.invariant (size) (omega (arith, least)) c.requires.some (inside)
-    c.place_obu-f.auto.0 c.place_obu-f.ensures
+    c.place_obu-f.auto.plan c.place_obu-f.ensures
 
 pub put_record-requires : goal.put_record-requires
 put_record-requires c =

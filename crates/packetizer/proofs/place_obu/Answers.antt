@@ -8,32 +8,32 @@ use Rattle.packetizer.proofs.Placing.{place_new, place_on, one_more, closing_roo
 use borrow.Author.Rules.{rules}
 use Rattle.packetizer.proofs.place_obu.Goals as goal
 
--- the packet is full, and q is the next one
-full : (c : tie.Then1) (q : PacketMetadata) →
-    let a = (start c.before).args in
-    q ≡ new_packet a.i (start_after a.f.packet) → place a.room a.i a.size a.f.packet ≡ closing a.f.packet (insert a.room a.i a.size q)
-full c q e = let a = (start c.before).args in place_new a.room a.i a.size a.f.packet q e (sym c.before.is-full.ensures ∙ c.if1.true)
-
 pub put_record-requires : goal.put_record-requires
-put_record-requires c = closing_room (full c _ refl) c.requires.1
+put_record-requires c =
+    let full : (q : PacketMetadata) → let a = c.args in q ≡ new_packet a.i (start_after a.f.packet) → place a.room a.i a.size a.f.packet ≡ closing a.f.packet (insert a.room a.i a.size q) = λ (q : PacketMetadata) e. let a = c.args in place_new a.room a.i a.size a.f.packet q e (sym c.is_full.ensures ∙ c.if-is_full.true) in
+    closing_room (full _ refl) c.requires.1
 
 pub start_after-start-requires : goal.start_after-start-requires
-start_after-start-requires c = let a = c.args in
-    closing_near (full c _ refl) c.requires.1 (insert_lined a.room a.i a.size (new_packet a.i (start_after a.f.packet)))
+start_after-start-requires c =
+    let full : (q : PacketMetadata) → let a = c.args in q ≡ new_packet a.i (start_after a.f.packet) → place a.room a.i a.size a.f.packet ≡ closing a.f.packet (insert a.room a.i a.size q) = λ (q : PacketMetadata) e. let a = c.args in place_new a.room a.i a.size a.f.packet q e (sym c.is_full.ensures ∙ c.if-is_full.true) in
+    let a = c.args in
+    closing_near (full _ refl) c.requires.1 (insert_lined a.room a.i a.size (new_packet a.i (start_after a.f.packet)))
 
 pub insert_obu-requires : goal.insert_obu-requires
 insert_obu-requires c =
     let new : let a = c.args in c.new_packet.result ≡ new_packet a.i (start_after a.f.packet) = let a = c.args in c.new_packet.ensures ∙ ap (new_packet a.i) c.start_after-start.ensures in
+    let full : (q : PacketMetadata) → let a = c.args in q ≡ new_packet a.i (start_after a.f.packet) → place a.room a.i a.size a.f.packet ≡ closing a.f.packet (insert a.room a.i a.size q) = λ (q : PacketMetadata) e. let a = c.args in place_new a.room a.i a.size a.f.packet q e (sym c.is_full.ensures ∙ c.if-is_full.true) in
     let q = c.new_packet.result in
     let z : (q.num_obu_elements ≡ 0) × (q.packet_size ≡ 0) = (ap (λ (p : PacketMetadata). p.num_obu_elements) (new), ap (λ (p : PacketMetadata). p.packet_size) (new)) in (
       omega (arith, c.requires.0, charge_none q z.0),
-      closing_asks (full c q (new)) c.requires.1 _ c.put_record.auto.0,
+      closing_asks (full q (new)) c.requires.1 _ c.put_record.auto.plan,
     )
 
 pub returns-then-is_full : goal.returns-then-is_full
 returns-then-is_full c =
+    let full : (q : PacketMetadata) → let a = c.args in q ≡ new_packet a.i (start_after a.f.packet) → place a.room a.i a.size a.f.packet ≡ closing a.f.packet (insert a.room a.i a.size q) = λ (q : PacketMetadata) e. let a = c.args in place_new a.room a.i a.size a.f.packet q e (sym c.is_full.ensures ∙ c.if-is_full.true) in
     let new : let a = c.args in c.new_packet.result ≡ new_packet a.i (start_after a.f.packet) = let a = c.args in c.new_packet.ensures ∙ ap (new_packet a.i) c.start_after-start.ensures in
-    closing_stored (full c _ (new)) c.put_record.ensures c.insert_obu.ensures
+    closing_stored (full _ (new)) c.put_record.ensures c.insert_obu.ensures
 
 pub insert_obu-requires-2 : goal.insert_obu-requires-2
 insert_obu-requires-2 c =

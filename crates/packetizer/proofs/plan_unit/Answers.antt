@@ -27,13 +27,13 @@ overflow_mul-filled c =
 pub slice_bounds-packetize-end : goal.slice_bounds-packetize-end
 slice_bounds-packetize-end c =
     let filled : Filled c.args.unit.now c.args.obus.now c.parse_obus.new.obus c.in-Listed.listed = record { answer = sym (ap paper_list c.in-Listed.is) ∙ c.parse_obus.ensures.0; after = c.parse_obus.ensures.1; } in
-    let long : c.in-Listed.listed.obus * obu_numbers ≤ length c.parse_obus.new.obus = omega (arith, list_long (filled), c.parse_obus.auto.1.0) in
+    let long : c.in-Listed.listed.obus * obu_numbers ≤ length c.parse_obus.new.obus = omega (arith, list_long (filled), c.parse_obus.auto.obus.0) in
     long
 
 pub slice_bounds-packetize-end-in-Listed : goal.slice_bounds-packetize-end-in-Listed
 slice_bounds-packetize-end-in-Listed c =
     let filled : Filled c.args.unit.now c.args.obus.now c.parse_obus.new.obus c.in-Listed.listed = record { answer = sym (ap paper_list c.in-Listed.is) ∙ c.parse_obus.ensures.0; after = c.parse_obus.ensures.1; } in
-    let long : c.in-Listed.listed.obus * obu_numbers ≤ length c.parse_obus.new.obus = omega (arith, list_long (filled), c.parse_obus.auto.1.0) in
+    let long : c.in-Listed.listed.obus * obu_numbers ≤ length c.parse_obus.new.obus = omega (arith, list_long (filled), c.parse_obus.auto.obus.0) in
     sym (length-take-le _ _ (long))
 
 pub packetize-packets-requires : goal.packetize-packets-requires
@@ -53,13 +53,13 @@ returns-then-plan-packets c =
 pub slice_bounds-packetize-end-in-Listed-2 : goal.slice_bounds-packetize-end-in-Listed-2
 slice_bounds-packetize-end-in-Listed-2 c =
     let filled : Filled c.args.unit.now c.args.obus.now c.parse_obus.new.obus c.in-Listed.listed = record { answer = sym (ap paper_list c.in-Listed.is) ∙ c.parse_obus.ensures.0; after = c.parse_obus.ensures.1; } in
-    let long : c.in-Listed.listed.obus * obu_numbers ≤ length c.parse_obus.new.obus = omega (arith, list_long (filled), c.parse_obus.auto.1.0) in
+    let long : c.in-Listed.listed.obus * obu_numbers ≤ length c.parse_obus.new.obus = omega (arith, list_long (filled), c.parse_obus.auto.obus.0) in
     long
 
 pub slice_bounds-packetize-end-in-Listed-3 : goal.slice_bounds-packetize-end-in-Listed-3
 slice_bounds-packetize-end-in-Listed-3 c =
     let filled : Filled c.args.unit.now c.args.obus.now c.parse_obus.new.obus c.in-Listed.listed = record { answer = sym (ap paper_list c.in-Listed.is) ∙ c.parse_obus.ensures.0; after = c.parse_obus.ensures.1; } in
-    let long : c.in-Listed.listed.obus * obu_numbers ≤ length c.parse_obus.new.obus = omega (arith, list_long (filled), c.parse_obus.auto.1.0) in
+    let long : c.in-Listed.listed.obus * obu_numbers ≤ length c.parse_obus.new.obus = omega (arith, list_long (filled), c.parse_obus.auto.obus.0) in
     sym (length-take-le _ _ (long))
 
 pub packetize-requires : goal.packetize-requires

@@ -13,19 +13,18 @@ use Rattle.packing.specs.Steps.{head_told}
 use Rattle.packing.proofs.Turning.{gives, gives_as, first_stored}
 use Rattle.packing.proofs.head_step.Goals as goal
 
--- what is told, by what was read
-told-by : (c : tie.After-read-head) (x : PackHeadRead) → c.read-head.result ≡ x → let a = (start c).args in
-    head_told a.place (head_after a.version a.got.now) ≡ head_told a.place (paper_head x)
-told-by c x e = ap (head_told (start c).args.place) (sym c.read-head.ensures ∙ ap paper_head e)
-
 pub returns-in-NoHead : goal.returns-in-NoHead
-returns-in-NoHead c = let told = told-by c _ c.in-NoHead.is in
+returns-in-NoHead c =
+    let told-by : (x : PackHeadRead) → c.read_head.result ≡ x → let a = c.args in head_told a.place (head_after a.version a.got.now) ≡ head_told a.place (paper_head x) = λ (x : PackHeadRead) e. ap (head_told c.args.place) (sym c.read_head.ensures ∙ ap paper_head e) in
+    let told = told-by _ c.in-NoHead.is in
     (gives_as told c.say.ensures, ap (λ (c : Told Place). front c.written c.args.written.now) (sym told))
 
 pub returns-in-Head : goal.returns-in-Head
-returns-in-Head c = let a = c.args in
+returns-in-Head c =
+    let told-by : (x : PackHeadRead) → c.read_head.result ≡ x → let a = c.args in head_told a.place (head_after a.version a.got.now) ≡ head_told a.place (paper_head x) = λ (x : PackHeadRead) e. ap (head_told c.args.place) (sym c.read_head.ensures ∙ ap paper_head e) in
+    let a = c.args in
     let h = c.in-Head.head in
-    let told = told-by c _ c.in-Head.is in
+    let told = told-by _ c.in-Head.is in
     let p : Place = record { wait = wait.Length; count = a.place.count; mtu = h.mtu; number = h.first } in (
       gives p refl tt (asked p ((head_for h.mtu).version ∷ []) 1 unit_width told refl c.ask.ensures refl (omega arith) (omega arith)),
       first_stored a.written.now (omega (arith, c.requires.0))

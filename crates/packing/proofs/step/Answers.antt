@@ -10,55 +10,6 @@ use Rattle.packing.specs.Steps.{awaits, step_in, Ready}
 use Rattle.packing.proofs.Turning.{gives, gives_as, ready_as, unit_at, ready_at, ready_given, version_ready, head_ready, length_ready, ready_wider, version_quiet, length_quiet, unit_quiet, stepped}
 use Rattle.packing.proofs.step.Goals as goal
 
-pub step_spec : {M : Type 1} → statement M
-step_spec =
-    tie.close
-    (tie.spec
-    enum_told
-    read-subject-requires
-    say-requires
-    enum-told-2
-    written-subject-requires
-    say-requires-2
-    enum-known-came
-    enum-told-3
-    slice-aggregate-version-step
-    version-step-requires
-    enum-known-wait
-    slice-aggregate-head-step
-    head-step-requires
-    enum-told-4
-    slice-aggregate-length-step
-    length-step-requires
-    enum-known-wait-2
-    slice-aggregate-unit-step
-    unit-step-requires
-    enum-known-wait-3
-    slice-aggregate-packet-step
-    packet-step-requires
-    enum-told-5
-    over-requires
-    same_length
-    returns
-    same-length-2
-    returns-2
-    same-length-3
-    returns-3
-    same-length-4
-    same-length-5
-    returns-4
-    same-length-6
-    returns-5
-    same-length-7
-    same-length-8
-    same-length-9
-    returns-6
-    same-length-10
-    same-length-11
-    same-length-12
-    returns-7
-    returns-8)
-
 pub slice_bounds-version_step-end : goal.slice_bounds-version_step-end
 slice_bounds-version_step-end c = came_part c.args.input.now c.in-Read.is c.requires.came_within c.requires.input_is
 

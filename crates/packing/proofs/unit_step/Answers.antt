@@ -12,33 +12,30 @@ use Rattle.packing.proofs.Units.{step_in_lem}
 use Rattle.packing.proofs.Turning.{gives, gives_as, ready_as}
 use Rattle.packing.proofs.unit_step.Goals as goal
 
--- what is told, by what came of it
-told-by : (c : tie.After-pack-unit) (u : UnitAnswer) → c.pack-unit.result ≡ u → let a = (start c).args in
-    unit_told a.place a.stated (step_in a.place.mtu a.stated a.got.now) ≡ unit_told a.place a.stated (paper_unit u)
-told-by c u e =
-    let a = (start c).args in
-    let s = (start c).requires in
-    ap (unit_told a.place a.stated)
-    (sym (c.pack-unit.ensures.0 ∙ step_in_lem a.place.mtu a.stated a.got.now a.obus.now a.plan.now s.1 s.2) ∙ ap paper_unit e)
-
 pub returns-in-Cut : goal.returns-in-Cut
-returns-in-Cut c = let said = c.say.ensures in
-    (gives_as (told-by c _ c.in-Cut.is) said, ready_as _ _ _ said.turned.0.place_is tt)
+returns-in-Cut c =
+    let told-by : (u : UnitAnswer) → c.pack_unit.result ≡ u → let a = c.args in unit_told a.place a.stated (step_in a.place.mtu a.stated a.got.now) ≡ unit_told a.place a.stated (paper_unit u) = λ (u : UnitAnswer) e. let a = c.args in let s = c.requires in ap (unit_told a.place a.stated) (sym (c.pack_unit.ensures.0 ∙ step_in_lem a.place.mtu a.stated a.got.now a.obus.now a.plan.now s.1 s.2) ∙ ap paper_unit e) in
+    let said = c.say.ensures in
+    (gives_as (told-by _ c.in-Cut.is) said, ready_as _ _ _ said.turned.0.place_is tt)
 
 pub returns-in-Refused : goal.returns-in-Refused
-returns-in-Refused c = let a = c.args in
+returns-in-Refused c =
+    let told-by : (u : UnitAnswer) → c.pack_unit.result ≡ u → let a = c.args in unit_told a.place a.stated (step_in a.place.mtu a.stated a.got.now) ≡ unit_told a.place a.stated (paper_unit u) = λ (u : UnitAnswer) e. let a = c.args in let s = c.requires in ap (unit_told a.place a.stated) (sym (c.pack_unit.ensures.0 ∙ step_in_lem a.place.mtu a.stated a.got.now a.obus.now a.plan.now s.1 s.2) ∙ ap paper_unit e) in
+    let a = c.args in
     let said = c.say-in-Refused.ensures in (
       gives_as
-          (told-by c _ c.in-Refused.is
+          (told-by _ c.in-Refused.is
           ∙ ap (λ (k : ℕ). says (awaits a.place wait.Nothing) (subject.Unit a.place.count) (word.Refused k) 0) (sym c.number.ensures)) said,
       ready_as _ _ _ said.turned.0.place_is tt,
     )
 
 pub returns-in-Packed : goal.returns-in-Packed
-returns-in-Packed c = let a = c.args in
+returns-in-Packed c =
+    let told-by : (u : UnitAnswer) → c.pack_unit.result ≡ u → let a = c.args in unit_told a.place a.stated (step_in a.place.mtu a.stated a.got.now) ≡ unit_told a.place a.stated (paper_unit u) = λ (u : UnitAnswer) e. let a = c.args in let s = c.requires in ap (unit_told a.place a.stated) (sym (c.pack_unit.ensures.0 ∙ step_in_lem a.place.mtu a.stated a.got.now a.obus.now a.plan.now s.1 s.2) ∙ ap paper_unit e) in
+    let a = c.args in
     let planned = c.in-Packed.planned in
     let p = awaits a.place (wait.Packets (begins a.stated planned)) in
     let there = c.awaiting.ensures in (
-      gives p there (ap (λ (o : Order). o.read) c.ask.ensures) (asked p [] 0 0 (told-by c _ c.in-Packed.is) there c.ask.ensures refl (omega arith) (omega arith)),
+      gives p there (ap (λ (o : Order). o.read) c.ask.ensures) (asked p [] 0 0 (told-by _ c.in-Packed.is) there c.ask.ensures refl (omega arith) (omega arith)),
       ready_as a.got.now _ _ there (c.pack_unit.ensures.1 planned c.in-Packed.is),
     )

@@ -12,21 +12,20 @@ use Rattle.packing.proofs.Reading.{mtu_within}
 use Rattle.packing.proofs.Turning.{gives, gives_as}
 use Rattle.packing.proofs.version_step.Goals as goal
 
--- what is told, by what was read
-told-by : (c : tie.After-read-version) (x : VersionRead) → c.read-version.result ≡ x
-    → version_told (start c).args.place (version_in (start c).args.got.now) ≡ version_told (start c).args.place (paper_version x)
-told-by c x e = ap (version_told (start c).args.place) (sym c.read-version.ensures ∙ ap paper_version e)
-
 pub overflow_add-width : goal.overflow_add-width
 overflow_add-width c = omega (arith, c.mtu_width-width.ensures, mtu_within c.in-Known.version)
 
 pub returns-in-Other : goal.returns-in-Other
-returns-in-Other c = gives_as (told-by c _ c.in-Other.is) c.say.ensures
+returns-in-Other c =
+    let told-by : (x : VersionRead) → c.read_version.result ≡ x → version_told c.args.place (version_in c.args.got.now) ≡ version_told c.args.place (paper_version x) = λ (x : VersionRead) e. ap (version_told c.args.place) (sym c.read_version.ensures ∙ ap paper_version e) in
+    gives_as (told-by _ c.in-Other.is) c.say.ensures
 
 pub returns-in-Known : goal.returns-in-Known
-returns-in-Known c = let v = c.in-Known.version in
+returns-in-Known c =
+    let told-by : (x : VersionRead) → c.read_version.result ≡ x → version_told c.args.place (version_in c.args.got.now) ≡ version_told c.args.place (paper_version x) = λ (x : VersionRead) e. ap (version_told c.args.place) (sym c.read_version.ensures ∙ ap paper_version e) in
+    let v = c.in-Known.version in
     let p : Place = awaits c.args.place (wait.Head v) in
     let width = c.mtu_width-width.ensures in
-    let told = told-by c _ c.in-Known.is ∙ ap (λ (w : ℕ). asks p [] (w + number_width)) (sym width) in
+    let told = told-by _ c.in-Known.is ∙ ap (λ (w : ℕ). asks p [] (w + number_width)) (sym width) in
     gives p c.awaiting.ensures tt
     (asked p [] 0 _ told c.awaiting.ensures c.ask.ensures refl (omega arith) (omega (arith, width, mtu_within v)))

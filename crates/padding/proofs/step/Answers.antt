@@ -8,18 +8,6 @@ use Rattle.padding.proofs.Printing.{passed_ready, gives_instead}
 use borrow.Author.Rules.{rules}
 use Rattle.padding.proofs.step.Goals as goal
 
-pub step_spec : {M : Type 1} → statement M
-step_spec =
-    tie.close
-    (tie.spec
-    step-requires
-    instead-requires
-    same_length
-    same-length-2
-    same-length-3
-    same-length-4
-    returns)
-
 pub instead-requires : goal.instead-requires
 instead-requires c = ((_, c.step-turn.ensures.2), search rules)
 

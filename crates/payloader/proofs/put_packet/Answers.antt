@@ -131,7 +131,7 @@ put_element-requires c =
 
 pub shape_of-out : goal.shape_of-out
 shape_of-out c = let a = c.args in
-    c.put_element.auto.1.1.1.1.1.0 ∙ c.loop-left.invariant.storing.same ∙ length-set a.out.now a.at c.header_byte.result
+    c.put_element.auto.out.1.1.1.1.0 ∙ c.loop-left.invariant.storing.same ∙ length-set a.out.now a.at c.header_byte.result
 
 pub returns : goal.returns
 returns c =

@@ -15,20 +15,6 @@ use Rattle.unpacking.proofs.Turning.{gives}
 use borrow.Author.Rules.{rules}
 use Rattle.unpacking.proofs.close.Goals as goal
 
-pub close_spec : {M : Type 1} → statement M
-close_spec =
-    tie.close
-    (tie.spec
-    with-open-requires
-    awaiting-requires
-    is-none-requires
-    over-requires
-    returns
-    put-losses-requires
-    tell-requires
-    same_length
-    returns-2)
-
 pub returns-then-is_none : goal.returns-then-is_none
 returns-then-is_none c = let p = awaits c.args.place wait.Nothing in
     let none = sym (c.is_none.ensures ∙ ap is_none c.with_open-lost.ensures) ∙ c.if-is_none.true in

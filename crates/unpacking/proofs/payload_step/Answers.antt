@@ -12,31 +12,31 @@ use Rattle.unpacking.proofs.Turning.{gives, gives_as, comes}
 use borrow.Author.Rules.{rules}
 use Rattle.unpacking.proofs.payload_step.Goals as goal
 
-answers : (c : tie.After-unpack-record) {x : RecordStep} → c.unpack-record.result ≡ x → answered (came c).answer ≡ paper_step x
-answers c e = sym (ap (λ (x : After (Step Received)). x.answer) c.unpack-record.ensures) ∙ ap paper_step e
-
 pub overflow_add-place : goal.overflow_add-place
 overflow_add-place c = omega (arith, c.requires.2)
 
 pub returns-in-Broken : goal.returns-in-Broken
 returns-in-Broken c =
     let came : After (Step Taken) = let a = c.args in step_of a.place.state a.fields a.got.now a.store.now a.out.now in
+    let answers : {x : RecordStep} → c.unpack_record.result ≡ x → answered (came).answer ≡ paper_step x = λ e. sym (ap (λ (x : After (Step Received)). x.answer) c.unpack_record.ensures) ∙ ap paper_step e in
     let p = c.args.place in
     comes (came) p c.unpack_record.ensures
-    (gives_as (ap (payload_told p) (answered_breaks (came).answer _ (answers c c.in-Broken.is))) c.stop_at.ensures)
+    (gives_as (ap (payload_told p) (answered_breaks (came).answer _ (answers c.in-Broken.is))) c.stop_at.ensures)
 
 pub returns-in-PassedOver : goal.returns-in-PassedOver
 returns-in-PassedOver c =
     let came : After (Step Taken) = let a = c.args in step_of a.place.state a.fields a.got.now a.store.now a.out.now in
+    let answers : {x : RecordStep} → c.unpack_record.result ≡ x → answered (came).answer ≡ paper_step x = λ e. sym (ap (λ (x : After (Step Received)). x.answer) c.unpack_record.ensures) ∙ ap paper_step e in
     let p = c.args.place in
     comes (came) p c.unpack_record.ensures
-    (gives_as (ap (payload_told p) (answered_passes (came).answer _ (answers c c.in-PassedOver.is))) c.pass_over.ensures)
+    (gives_as (ap (payload_told p) (answered_passes (came).answer _ (answers c.in-PassedOver.is))) c.pass_over.ensures)
 
 pub returns-in-Taken : goal.returns-in-Taken
 returns-in-Taken c =
     let came : After (Step Taken) = let a = c.args in step_of a.place.state a.fields a.got.now a.store.now a.out.now in
+    let answers : {x : RecordStep} → c.unpack_record.result ≡ x → answered (came).answer ≡ paper_step x = λ e. sym (ap (λ (x : After (Step Received)). x.answer) c.unpack_record.ensures) ∙ ap paper_step e in
     let p = c.args.place in
-    let x = answered_takes (came).answer _ (answers c c.in-Taken.is) in
+    let x = answered_takes (came).answer _ (answers c.in-Taken.is) in
     let new = next p (state_of x.0.held) (with_taken p.losses x.0.lost) in
     let there = c.following.ensures ∙ ap (next p c.in-Taken.taken.state) c.with_taken-lost.ensures
     ∙ ap (λ (y : Received). next p y.state (with_taken p.losses (record { fragment = y.fragment_lost; element = y.element_lost }))) x.2 in

@@ -11,8 +11,8 @@ use Rattle.unpacking.proofs.Turning.{gives}
 use borrow.Author.Rules.{rules}
 use Rattle.unpacking.proofs.start.Goals as goal
 
-pub start_spec : {M : Type 1} → statement M
-start_spec = tie.close (tie.spec none-requires ask-requires returns)
+pub tie.close (tie.spec none-requires ask-requires returns) : {M : Type 1} → statement M
+
 
 pub returns : goal.returns
 returns c = let p = starts_with.place in

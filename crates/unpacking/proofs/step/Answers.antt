@@ -11,51 +11,6 @@ use Rattle.unpacking.proofs.Turning.{gives, stays, by_wait}
 use borrow.Author.Rules.{rules}
 use Rattle.unpacking.proofs.step.Goals as goal
 
-pub step_spec : {M : Type 1} → statement M
-step_spec =
-    tie.close
-    (tie.spec
-    enum_told
-    read-subject-requires
-    say-requires
-    enum-told-2
-    written-subject-requires
-    say-requires-2
-    enum-known-came
-    enum-told-3
-    slice-aggregate-version-step
-    version-step-requires
-    enum-told-4
-    slice-aggregate-fields-step
-    fields-step-requires
-    enum-known-wait
-    slice-aggregate-payload-step
-    payload-step-requires
-    enum-known-wait-2
-    slice-aggregate-away-step
-    away-step-requires
-    enum-told-5
-    close-requires
-    enum-told-6
-    over-requires
-    same_length
-    returns
-    same-length-2
-    returns-2
-    same-length-3
-    returns-3
-    same-length-4
-    returns-4
-    same-length-5
-    same-length-6
-    same-length-7
-    returns-5
-    same-length-8
-    returns-6
-    same-length-9
-    returns-7
-    returns-8)
-
 pub slice_bounds-version_step-end : goal.slice_bounds-version_step-end
 slice_bounds-version_step-end c =
     let read : c.in-Read.n ≡ length (take c.in-Read.n c.args.input.now) = came_part c.args.input.now c.in-Read.is c.requires.came_within c.requires.input_is in
