@@ -5,9 +5,6 @@ use lib.Seq.{sets-eq, length-take-le}
 use borrow.Author.Rules.{rules}
 use Rattle.handing.proofs.copy.Goals as goal
 
-pub tie.close (tie.spec copy-bytes-requires same_length returns) : {M : Type 1} → statement M
-
-
 pub returns : goal.returns
 returns c = let a = c.args in
     let p = c.requires in

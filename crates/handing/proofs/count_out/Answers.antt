@@ -11,4 +11,4 @@ returns-then-to-from c = let p = c.requires in
     handing_end (handing_first p false _) p.whole c.if-to-from.true
 
 pub hand_out-requires : goal.hand_out-requires
-hand_out-requires c = (c.requires, λ w. let z : ◌≡◌ {A = ℕ} 0 1 = cc in absurd (omega arith))
+hand_out-requires c = record { finishing = c.requires; room_at = λ w. let z : ◌≡◌ {A = ℕ} 0 1 = cc in absurd (omega arith) }

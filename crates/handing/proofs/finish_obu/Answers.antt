@@ -25,8 +25,8 @@ overflow_cast-head c =
     let all_of : List ℕ = fragment_of c.args.store.now c.args.payload.now c.args.f in
     let found : given (front) ≡ whole_of (all_of) = sym (ap paper_whole c.in-Found.is) ∙ c.judge.ensures in
     let spans : span_of (front) ≡ length (all_of) = whole_spans (all_of) (front) (found) in
-    let total : length (all_of) ≡ c.args.f.kept + c.args.f.size = let a = c.args in across_length a.store.now a.payload.now a.f.kept a.f.start a.f.size c.requires.0.stored c.requires.0.lies in
-    let small : span_of (front) < 4294967296 = omega (arith, spans, total, c.requires.0.small) in
+    let total : length (all_of) ≡ c.args.f.kept + c.args.f.size = let a = c.args in across_length a.store.now a.payload.now a.f.kept a.f.start a.f.size c.requires.there.stored c.requires.there.lies in
+    let small : span_of (front) < 4294967296 = omega (arith, spans, total, c.requires.there.small) in
     omega (arith, small)
 
 pub returns-then-should_ignore_obu_type : goal.returns-then-should_ignore_obu_type
@@ -45,13 +45,10 @@ put_obu-requires c =
     let all_of : List ℕ = fragment_of c.args.store.now c.args.payload.now c.args.f in
     let found : given (front) ≡ whole_of (all_of) = sym (ap paper_whole c.in-Found.is) ∙ c.judge.ensures in
     let spans : span_of (front) ≡ length (all_of) = whole_spans (all_of) (front) (found) in
-    let total : length (all_of) ≡ c.args.f.kept + c.args.f.size = let a = c.args in across_length a.store.now a.payload.now a.f.kept a.f.start a.f.size c.requires.0.stored c.requires.0.lies in
+    let total : length (all_of) ≡ c.args.f.kept + c.args.f.size = let a = c.args in across_length a.store.now a.payload.now a.f.kept a.f.start a.f.size c.requires.there.stored c.requires.there.lies in
     let dropped : drops (type_of (front).header) ≡ c.should_ignore_obu_type.result = sym (c.should_ignore_obu_type.ensures ∙ ap drops c.obu_type.ensures) in
     let kept : wire (all_of) ≡ given (framed (front).header (front).extension (drop (start_of (front)) (all_of))) = wire_kept (all_of) (front) (found) (dropped ∙ c.if-should_ignore_obu_type.false) in
-    (
-      (c.requires.0, spans ∙ total),
-      λ w. subst (RoomAt (length c.args.out.now) c.args.at) (kept) (c.requires.1 w),
-    )
+    record { there = (c.requires.there, spans ∙ total); f_in_bounds = λ w. subst (RoomAt (length c.args.out.now) c.args.at) (kept) (c.requires.room_at w) }
 
 pub overflow_add-bytes : goal.overflow_add-bytes
 overflow_add-bytes c =
@@ -59,8 +56,8 @@ overflow_add-bytes c =
     let all_of : List ℕ = fragment_of c.args.store.now c.args.payload.now c.args.f in
     let found : given (front) ≡ whole_of (all_of) = sym (ap paper_whole c.in-Found.is) ∙ c.judge.ensures in
     let spans : span_of (front) ≡ length (all_of) = whole_spans (all_of) (front) (found) in
-    let total : length (all_of) ≡ c.args.f.kept + c.args.f.size = let a = c.args in across_length a.store.now a.payload.now a.f.kept a.f.start a.f.size c.requires.0.stored c.requires.0.lies in
-    let small : span_of (front) < 4294967296 = omega (arith, spans, total, c.requires.0.small) in
+    let total : length (all_of) ≡ c.args.f.kept + c.args.f.size = let a = c.args in across_length a.store.now a.payload.now a.f.kept a.f.start a.f.size c.requires.there.stored c.requires.there.lies in
+    let small : span_of (front) < 4294967296 = omega (arith, spans, total, c.requires.there.small) in
     omega (arith, c.header_size.ensures, c.leb128_size-field.ensures, field_most (front).payload (omega (arith, small)))
 
 pub overflow_add-bytes-in-Found : goal.overflow_add-bytes-in-Found
@@ -69,8 +66,8 @@ overflow_add-bytes-in-Found c =
     let all_of : List ℕ = fragment_of c.args.store.now c.args.payload.now c.args.f in
     let found : given (front) ≡ whole_of (all_of) = sym (ap paper_whole c.in-Found.is) ∙ c.judge.ensures in
     let spans : span_of (front) ≡ length (all_of) = whole_spans (all_of) (front) (found) in
-    let total : length (all_of) ≡ c.args.f.kept + c.args.f.size = let a = c.args in across_length a.store.now a.payload.now a.f.kept a.f.start a.f.size c.requires.0.stored c.requires.0.lies in
-    let small : span_of (front) < 4294967296 = omega (arith, spans, total, c.requires.0.small) in
+    let total : length (all_of) ≡ c.args.f.kept + c.args.f.size = let a = c.args in across_length a.store.now a.payload.now a.f.kept a.f.start a.f.size c.requires.there.stored c.requires.there.lies in
+    let small : span_of (front) < 4294967296 = omega (arith, spans, total, c.requires.there.small) in
     omega (arith, c.header_size.ensures, c.leb128_size-field.ensures, field_most (front).payload (omega (arith, small)), small)
 
 pub returns-in-Refused : goal.returns-in-Refused

@@ -14,30 +14,30 @@ use Rattle.handing.proofs.put_obu.Goals as goal
 
 pub put_header-field-requires : goal.put_header-field-requires
 put_header-field-requires c =
-    let spans : span_of (paper_head c.args.head) ≡ length (fragment_of c.args.store.now c.args.payload.now c.args.f) = let a = c.args in c.requires.0.1 ∙ sym (across_length a.store.now a.payload.now a.f.kept a.f.start a.f.size c.requires.0.0.stored c.requires.0.0.lies) in
-    let room : let a = c.args in a.at + (header_length a.head.header + length (encode a.head.payload) + a.head.payload) ≤ length a.out.now = let a = c.args in let l = out_length (fragment_of a.store.now a.payload.now a.f) (paper_head a.head) (spans) in let r = c.requires.1 c.if-write.true in omega arith in
+    let spans : span_of (paper_head c.args.head) ≡ length (fragment_of c.args.store.now c.args.payload.now c.args.f) = let a = c.args in c.requires.there.1 ∙ sym (across_length a.store.now a.payload.now a.f.kept a.f.start a.f.size c.requires.there.0.stored c.requires.there.0.lies) in
+    let room : let a = c.args in a.at + (header_length a.head.header + length (encode a.head.payload) + a.head.payload) ≤ length a.out.now = let a = c.args in let l = out_length (fragment_of a.store.now a.payload.now a.f) (paper_head a.head) (spans) in let r = c.requires.f_in_bounds c.if-write.true in omega arith in
     let r = room in omega arith
 
 pub put_leb128-body-requires : goal.put_leb128-body-requires
 put_leb128-body-requires c =
-    let spans : span_of (paper_head c.args.head) ≡ length (fragment_of c.args.store.now c.args.payload.now c.args.f) = let a = c.args in c.requires.0.1 ∙ sym (across_length a.store.now a.payload.now a.f.kept a.f.start a.f.size c.requires.0.0.stored c.requires.0.0.lies) in
-    let room : let a = c.args in a.at + (header_length a.head.header + length (encode a.head.payload) + a.head.payload) ≤ length a.out.now = let a = c.args in let l = out_length (fragment_of a.store.now a.payload.now a.f) (paper_head a.head) (spans) in let r = c.requires.1 c.if-write.true in omega arith in
+    let spans : span_of (paper_head c.args.head) ≡ length (fragment_of c.args.store.now c.args.payload.now c.args.f) = let a = c.args in c.requires.there.1 ∙ sym (across_length a.store.now a.payload.now a.f.kept a.f.start a.f.size c.requires.there.0.stored c.requires.there.0.lies) in
+    let room : let a = c.args in a.at + (header_length a.head.header + length (encode a.head.payload) + a.head.payload) ≤ length a.out.now = let a = c.args in let l = out_length (fragment_of a.store.now a.payload.now a.f) (paper_head a.head) (spans) in let r = c.requires.f_in_bounds c.if-write.true in omega arith in
     omega (arith, room, c.put_header-field.ensures.0, c.put_header-field.auto.out)
 
 pub copy_across-requires : goal.copy_across-requires
 copy_across-requires c =
-    let spans : span_of (paper_head c.args.head) ≡ length (fragment_of c.args.store.now c.args.payload.now c.args.f) = let a = c.args in c.requires.0.1 ∙ sym (across_length a.store.now a.payload.now a.f.kept a.f.start a.f.size c.requires.0.0.stored c.requires.0.0.lies) in
-    let room : let a = c.args in a.at + (header_length a.head.header + length (encode a.head.payload) + a.head.payload) ≤ length a.out.now = let a = c.args in let l = out_length (fragment_of a.store.now a.payload.now a.f) (paper_head a.head) (spans) in let r = c.requires.1 c.if-write.true in omega arith in
+    let spans : span_of (paper_head c.args.head) ≡ length (fragment_of c.args.store.now c.args.payload.now c.args.f) = let a = c.args in c.requires.there.1 ∙ sym (across_length a.store.now a.payload.now a.f.kept a.f.start a.f.size c.requires.there.0.stored c.requires.there.0.lies) in
+    let room : let a = c.args in a.at + (header_length a.head.header + length (encode a.head.payload) + a.head.payload) ≤ length a.out.now = let a = c.args in let l = out_length (fragment_of a.store.now a.payload.now a.f) (paper_head a.head) (spans) in let r = c.requires.f_in_bounds c.if-write.true in omega arith in
     (
-      c.requires.0.0,
-      omega (arith, c.requires.0.1, c.header_size.ensures),
-      omega (arith, room, c.requires.0.1, c.header_size.ensures, c.put_header-field.ensures.0, c.put_header-field.new.out, c.put_leb128-body.ensures.0, c.put_leb128-body.new.out),
+      c.requires.there.0,
+      omega (arith, c.requires.there.1, c.header_size.ensures),
+      omega (arith, room, c.requires.there.1, c.header_size.ensures, c.put_header-field.ensures.0, c.put_header-field.new.out, c.put_leb128-body.ensures.0, c.put_leb128-body.new.out),
     )
 
 pub returns-then-write : goal.returns-then-write
 returns-then-write c =
-    let spans : span_of (paper_head c.args.head) ≡ length (fragment_of c.args.store.now c.args.payload.now c.args.f) = let a = c.args in c.requires.0.1 ∙ sym (across_length a.store.now a.payload.now a.f.kept a.f.start a.f.size c.requires.0.0.stored c.requires.0.0.lies) in
-    let room : let a = c.args in a.at + (header_length a.head.header + length (encode a.head.payload) + a.head.payload) ≤ length a.out.now = let a = c.args in let l = out_length (fragment_of a.store.now a.payload.now a.f) (paper_head a.head) (spans) in let r = c.requires.1 c.if-write.true in omega arith in
+    let spans : span_of (paper_head c.args.head) ≡ length (fragment_of c.args.store.now c.args.payload.now c.args.f) = let a = c.args in c.requires.there.1 ∙ sym (across_length a.store.now a.payload.now a.f.kept a.f.start a.f.size c.requires.there.0.stored c.requires.there.0.lies) in
+    let room : let a = c.args in a.at + (header_length a.head.header + length (encode a.head.payload) + a.head.payload) ≤ length a.out.now = let a = c.args in let l = out_length (fragment_of a.store.now a.payload.now a.f) (paper_head a.head) (spans) in let r = c.requires.f_in_bounds c.if-write.true in omega arith in
     let a = c.args in
     let r = room in
     rw c.if-write.true

@@ -30,7 +30,7 @@ pub slice_bounds-row_at-end-3 : goal.slice_bounds-row_at-end-3
 slice_bounds-row_at-end-3 c = sym (length-take-le _ c.args.plan.now (filled_plan c.requires.0))
 
 pub row_at-row-requires : goal.row_at-row-requires
-row_at-row-requires c = (omega (arith, c.if-packets-k.false, length-take-le _ c.args.plan.now (filled_plan c.requires.0)), filled_headed c.requires.0 c.if-packets-k.false)
+row_at-row-requires c = record { plan_numbers_in_bounds = omega (arith, c.if-packets-k.false, length-take-le _ c.args.plan.now (filled_plan c.requires.0)); headed = filled_headed c.requires.0 c.if-packets-k.false }
 
 pub returns : goal.returns
 returns c = let p = c.args.place in

@@ -7,8 +7,5 @@ use Rattle.listing.specs.Steps.{starts_with}
 use borrow.Author.Rules.{rules}
 use Rattle.listing.proofs.start.Goals as goal
 
-pub tie.close (tie.spec ask-requires returns) : {M : Type 1} → statement M
-
-
 pub returns : goal.returns
 returns c = (asked starts_with.place [] 0 head_width refl refl c.ask.ensures refl (omega arith) (omega arith), λ unit obus plan. tt)

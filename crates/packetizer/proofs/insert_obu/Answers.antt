@@ -11,12 +11,12 @@ use Rattle.packetizer.proofs.insert_obu.Goals as goal
 pub overflow_sub-room : goal.overflow_sub-room
 overflow_sub-room c =
     let told : (c.charge-q.result.packet_size ≡ c.args.f.packet.packet_size + charge_of c.args.f.packet) × (c.charge-q.result.num_obu_elements ≡ c.args.f.packet.num_obu_elements) = (ap (λ (q : PacketMetadata). q.packet_size) c.charge-q.ensures, ap (λ (q : PacketMetadata). q.num_obu_elements) c.charge-q.ensures) in
-    omega (arith, told, c.requires.0)
+    omega (arith, told, c.requires.num_obu_elements_bound)
 
 pub with_element-requires : goal.with_element-requires
 with_element-requires c =
     let told : (c.charge-q.result.packet_size ≡ c.args.f.packet.packet_size + charge_of c.args.f.packet) × (c.charge-q.result.num_obu_elements ≡ c.args.f.packet.num_obu_elements) = (ap (λ (q : PacketMetadata). q.packet_size) c.charge-q.ensures, ap (λ (q : PacketMetadata). q.num_obu_elements) c.charge-q.ensures) in
-    (omega (arith, c.requires.0), omega (arith, told, c.requires.0), omega (arith, told, c.requires.0), c.required_bytes-need.ensures)
+    (omega (arith, c.requires.num_obu_elements_bound), omega (arith, told, c.requires.num_obu_elements_bound), omega (arith, told, c.requires.num_obu_elements_bound), c.required_bytes-need.ensures)
 
 pub returns-then-need-room : goal.returns-then-need-room
 returns-then-need-room c = let a = c.args in
@@ -27,36 +27,33 @@ returns-then-need-room c = let a = c.args in
 pub first_fragment_size-n-requires : goal.first_fragment_size-n-requires
 first_fragment_size-n-requires c =
     let told : (c.charge-q.result.packet_size ≡ c.args.f.packet.packet_size + charge_of c.args.f.packet) × (c.charge-q.result.num_obu_elements ≡ c.args.f.packet.num_obu_elements) = (ap (λ (q : PacketMetadata). q.packet_size) c.charge-q.ensures, ap (λ (q : PacketMetadata). q.num_obu_elements) c.charge-q.ensures) in
-    omega (arith, told, c.requires.0)
+    omega (arith, told, c.requires.num_obu_elements_bound)
 
 pub cut_at-cut-requires : goal.cut_at-cut-requires
 cut_at-cut-requires c =
     let told : (c.charge-q.result.packet_size ≡ c.args.f.packet.packet_size + charge_of c.args.f.packet) × (c.charge-q.result.num_obu_elements ≡ c.args.f.packet.num_obu_elements) = (ap (λ (q : PacketMetadata). q.packet_size) c.charge-q.ensures, ap (λ (q : PacketMetadata). q.num_obu_elements) c.charge-q.ensures) in
     let a = c.args in
-    omega (arith, told, c.requires.0, c.first_fragment_size-n.ensures, fragment_below a.room c.charge-q.result a.size)
+    omega (arith, told, c.requires.num_obu_elements_bound, c.first_fragment_size-n.ensures, fragment_below a.room c.charge-q.result a.size)
 
 pub put_record-requires : goal.put_record-requires
 put_record-requires c =
     let cut : let a = c.args in insert a.room a.i a.size a.f.packet ≡ closing_then (cut_at a.f.packet c.charge-q.result c.first_fragment_size-n.result) (spread a.size a.room a.i a.size c.first_fragment_size-n.result) = let a = c.args in insert_cut a.room a.i a.size a.f.packet c.charge-q.result c.first_fragment_size-n.result c.charge-q.ensures c.first_fragment_size-n.ensures (omega (arith, c.required_bytes-need.ensures, c.if-need-room.false)) in
     let cut_as : let a = c.args in insert a.room a.i a.size a.f.packet ≡ closing_then c.cut_at-cut.result (spread a.size a.room a.i a.size c.first_fragment_size-n.result) = let a = c.args in cut ∙ ap (λ (q : PacketMetadata). closing_then q (spread a.size a.room a.i a.size c.first_fragment_size-n.result)) (sym c.cut_at-cut.ensures) in
-    closing_room (cut_as) c.requires.1
+    closing_room (cut_as) c.requires.closable
 
 pub start_after-start-requires : goal.start_after-start-requires
 start_after-start-requires c =
     let cut : let a = c.args in insert a.room a.i a.size a.f.packet ≡ closing_then (cut_at a.f.packet c.charge-q.result c.first_fragment_size-n.result) (spread a.size a.room a.i a.size c.first_fragment_size-n.result) = let a = c.args in insert_cut a.room a.i a.size a.f.packet c.charge-q.result c.first_fragment_size-n.result c.charge-q.ensures c.first_fragment_size-n.ensures (omega (arith, c.required_bytes-need.ensures, c.if-need-room.false)) in
     let cut_as : let a = c.args in insert a.room a.i a.size a.f.packet ≡ closing_then c.cut_at-cut.result (spread a.size a.room a.i a.size c.first_fragment_size-n.result) = let a = c.args in cut ∙ ap (λ (q : PacketMetadata). closing_then q (spread a.size a.room a.i a.size c.first_fragment_size-n.result)) (sym c.cut_at-cut.ensures) in
     let a = c.args in
-    closing_near (cut_as) c.requires.1
+    closing_near (cut_as) c.requires.closable
     (spread_lined a.size a.room a.i a.size c.first_fragment_size-n.result (start_after c.cut_at-cut.result))
 
 pub spread_obu-requires : goal.spread_obu-requires
 spread_obu-requires c =
     let cut : let a = c.args in insert a.room a.i a.size a.f.packet ≡ closing_then (cut_at a.f.packet c.charge-q.result c.first_fragment_size-n.result) (spread a.size a.room a.i a.size c.first_fragment_size-n.result) = let a = c.args in insert_cut a.room a.i a.size a.f.packet c.charge-q.result c.first_fragment_size-n.result c.charge-q.ensures c.first_fragment_size-n.ensures (omega (arith, c.required_bytes-need.ensures, c.if-need-room.false)) in
     let cut_as : let a = c.args in insert a.room a.i a.size a.f.packet ≡ closing_then c.cut_at-cut.result (spread a.size a.room a.i a.size c.first_fragment_size-n.result) = let a = c.args in cut ∙ ap (λ (q : PacketMetadata). closing_then q (spread a.size a.room a.i a.size c.first_fragment_size-n.result)) (sym c.cut_at-cut.ensures) in
-    let a = c.args in (
-      omega (arith, c.requires.0, c.first_fragment_size-n.ensures, fragment_below a.room c.charge-q.result a.size),
-      rw c.start_after-start.ensures (closing_asks (cut_as) c.requires.1 _ c.put_record.auto.plan),
-    )
+    let a = c.args in record { le_room = omega (arith, c.requires.num_obu_elements_bound, c.first_fragment_size-n.ensures, fragment_below a.room c.charge-q.result a.size); closable = rw c.start_after-start.ensures (closing_asks (cut_as) c.requires.closable _ c.put_record.auto.plan) }
 
 pub returns : goal.returns
 returns c =

@@ -55,10 +55,7 @@ place_obu-f-requires c =
     let v = c.loop-i in
     let l = inside in
     let s = c.requires in
-    rw (size) (
-      omega (arith, current_held _ _ _ _ v.invariant.current, s.some v.i l, total_each (of) v.i, s.total, s.most, least),
-      placing_asks v.invariant l (few) (near) (room),
-    )
+    rw (size) (record { num_obu_elements_bound = omega (arith, current_held _ _ _ _ v.invariant.current, s.some v.i l, total_each (of) v.i, s.total, s.most, least); closable = placing_asks v.invariant l (few) (near) (room) })
 
 pub overflow_add-i : goal.overflow_add-i
 overflow_add-i c = omega (arith, c.loop-i-test.true)

@@ -11,24 +11,24 @@ pub overflow_sub-size : goal.overflow_sub-size
 overflow_sub-size c = omega (arith, c.loop-offset.invariant.inside)
 
 pub put_record-requires : goal.put_record-requires
-put_record-requires c = spreading_room c.loop-offset.invariant c.requires.1 c.loop-offset-test.true
+put_record-requires c = spreading_room c.loop-offset.invariant c.requires.closable c.loop-offset-test.true
 
 pub overflow_add-n : goal.overflow_add-n
-overflow_add-n c = omega (arith, spreading_few c.loop-offset.invariant c.requires.1 c.loop-offset-test.true)
+overflow_add-n c = omega (arith, spreading_few c.loop-offset.invariant c.requires.closable c.loop-offset-test.true)
 
 pub overflow_add-offset : goal.overflow_add-offset
-overflow_add-offset c = omega (arith, c.requires.0, c.loop-offset.invariant.inside, c.loop-offset-test.true)
+overflow_add-offset c = omega (arith, c.requires.le_room, c.loop-offset.invariant.inside, c.loop-offset-test.true)
 
 pub start_after-next-requires : goal.start_after-next-requires
-start_after-next-requires c = rw c.alone_in_packet-p.ensures (spreading_near c.loop-offset.invariant c.requires.1 c.loop-offset-test.true)
+start_after-next-requires c = rw c.alone_in_packet-p.ensures (spreading_near c.loop-offset.invariant c.requires.closable c.loop-offset-test.true)
 
 pub loop-offset-smaller : goal.loop-offset-smaller
-loop-offset-smaller c = omega (arith, c.requires.0, c.loop-offset.invariant.inside, c.loop-offset-test.true)
+loop-offset-smaller c = omega (arith, c.requires.le_room, c.loop-offset.invariant.inside, c.loop-offset-test.true)
 
 pub loop-offset-preserved : goal.loop-offset-preserved
 loop-offset-preserved c = let p = c.put_record in
     rw c.start_after-next.ensures
-    (spreading_next c.loop-offset.invariant c.requires.0.0 c.loop-offset-test.true p.kept.0 c.alone_in_packet-p.ensures p.ensures)
+    (spreading_next c.loop-offset.invariant c.requires.le_room.0 c.loop-offset-test.true p.kept.0 c.alone_in_packet-p.ensures p.ensures)
 
 pub overflow_sub-size-2 : goal.overflow_sub-size-2
 overflow_sub-size-2 c = omega (arith, c.loop-offset.invariant.inside)

@@ -18,16 +18,16 @@ use Rattle.packing.proofs.Turning.{gives}
 use Rattle.packing.proofs.record_turn.Goals as goal
 
 pub slice_bounds-put_record-end : goal.slice_bounds-put_record-end
-slice_bounds-put_record-end c = sym (length-take-le _ c.args.obus.now c.requires.0.ready.obus_room)
+slice_bounds-put_record-end c = sym (length-take-le _ c.args.obus.now c.requires.lent_packets.ready.obus_room)
 
 pub slice_bounds-put_record-end-2 : goal.slice_bounds-put_record-end-2
-slice_bounds-put_record-end-2 c = sym (length-take-le _ c.args.plan.now c.requires.0.ready.plan_room)
+slice_bounds-put_record-end-2 c = sym (length-take-le _ c.args.plan.now c.requires.lent_packets.ready.plan_room)
 
 pub put_record-end-requires : goal.put_record-end-requires
 put_record-end-requires c =
     let unit-bytes : Bytes c.args.unit.now = λ i. (c.shared_slice_known-1.given i).fits in
     let width : c.head_for-train_head.result.width ≡ (head_for c.args.place.mtu).width = ap (λ (h : TrainHead). h.width) c.head_for-train_head.ensures in
-    let room : let a = c.args in Recordable a.place.mtu a.unit.now (take (a.progress.obus * obu_numbers) a.obus.now) (take (a.progress.packets * plan_numbers) a.plan.now) a.progress.packet c.head_for-train_head.result.width a.written.now = record_room_lem c.requires.0 (unit-bytes) c.requires.1 (width) in
+    let room : let a = c.args in Recordable a.place.mtu a.unit.now (take (a.progress.obus * obu_numbers) a.obus.now) (take (a.progress.packets * plan_numbers) a.plan.now) a.progress.packet c.head_for-train_head.result.width a.written.now = record_room_lem c.requires.lent_packets (unit-bytes) c.requires.packet_lt_packets (width) in
     room
 
 pub returns : goal.returns
@@ -35,8 +35,8 @@ returns c =
     let unit-bytes : Bytes c.args.unit.now = λ i. (c.shared_slice_known-1.given i).fits in
     let width : c.head_for-train_head.result.width ≡ (head_for c.args.place.mtu).width = ap (λ (h : TrainHead). h.width) c.head_for-train_head.ensures in
     let a = c.args in
-    let lent = c.requires.0 in
-    let more = c.requires.1 in
+    let lent = c.requires.lent_packets in
+    let more = c.requires.packet_lt_packets in
     let at : ℕ → Place = λ (n : ℕ). record { wait = wait.Packets (after a.progress); count = a.place.count; mtu = a.place.mtu; number = n } in
     let p : Place = at (next_number a.place.number) in
     let there = ap {B = Place} at c.wrapping_add_u16.ensures in

@@ -5,8 +5,5 @@ use Rattle.packing.specs.Steps.{starts_with}
 use Rattle.packing.proofs.Turning.{gives}
 use Rattle.packing.proofs.start.Goals as goal
 
-pub tie.close (tie.spec ask-requires returns) : {M : Type 1} → statement M
-
-
 pub returns : goal.returns
 returns c = gives starts_with.place refl tt (asked starts_with.place [] 0 version_width refl refl c.ask.ensures refl (omega arith) (omega arith))

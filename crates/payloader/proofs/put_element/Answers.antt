@@ -11,18 +11,18 @@ use Rattle.payloader.proofs.put_element.Goals as goal
 
 pub put_leb128-next-requires : goal.put_leb128-next-requires
 put_leb128-next-requires c =
-    let room : c.args.at + (length (encode c.args.n) + c.args.n) ≤ length c.args.out.now = let a = c.args in let e : length (cond a.field (encode a.n) []) ≡ length (encode a.n) = ap (λ (t : Bool). length (cond t (encode a.n) [])) c.if-field.true in omega (arith, c.requires.1.1) in
+    let room : c.args.at + (length (encode c.args.n) + c.args.n) ≤ length c.args.out.now = let a = c.args in let e : length (cond a.field (encode a.n) []) ≡ length (encode a.n) = ap (λ (t : Bool). length (cond t (encode a.n) [])) c.if-field.true in omega (arith, c.requires.n_in_bounds) in
     omega (arith, room)
 
 pub put_part-requires : goal.put_part-requires
 put_part-requires c =
-    let room : c.args.at + (length (encode c.args.n) + c.args.n) ≤ length c.args.out.now = let a = c.args in let e : length (cond a.field (encode a.n) []) ≡ length (encode a.n) = ap (λ (t : Bool). length (cond t (encode a.n) [])) c.if-field.true in omega (arith, c.requires.1.1) in
+    let room : c.args.at + (length (encode c.args.n) + c.args.n) ≤ length c.args.out.now = let a = c.args in let e : length (cond a.field (encode a.n) []) ≡ length (encode a.n) = ap (λ (t : Bool). length (cond t (encode a.n) [])) c.if-field.true in omega (arith, c.requires.n_in_bounds) in
     let p = c.requires in
-    (p.0.within, omega (arith, p.1.0, p.0.size), omega (arith, room, c.put_leb128-next.ensures.0, c.put_leb128-next.new.out))
+    (p.lies.within, omega (arith, p.n_bound, p.lies.size), omega (arith, room, c.put_leb128-next.ensures.0, c.put_leb128-next.new.out))
 
 pub returns-then-field : goal.returns-then-field
 returns-then-field c =
-    let room : c.args.at + (length (encode c.args.n) + c.args.n) ≤ length c.args.out.now = let a = c.args in let e : length (cond a.field (encode a.n) []) ≡ length (encode a.n) = ap (λ (t : Bool). length (cond t (encode a.n) [])) c.if-field.true in omega (arith, c.requires.1.1) in
+    let room : c.args.at + (length (encode c.args.n) + c.args.n) ≤ length c.args.out.now = let a = c.args in let e : length (cond a.field (encode a.n) []) ≡ length (encode a.n) = ap (λ (t : Bool). length (cond t (encode a.n) [])) c.if-field.true in omega (arith, c.requires.n_in_bounds) in
     let a = c.args in
     rw c.if-field.true (
       omega (arith, c.put_part.ensures.0, c.put_leb128-next.ensures.0),

@@ -108,10 +108,7 @@ put_packets-requires c =
     let are-packets : packets_in (take ((found).packets * plan_numbers) (input).plan) ≡ unit_plan (input).mtu (input).unit = ap packets_in (known).plan_same ∙ packets_flat (unit_plan (input).mtu (input).unit) in
     let bytes : Bytes (input).unit = λ i. (c.shared_slice_known-1.given i).fits in
     let bytes-are : c.run_bytes-bytes.result ≡ length (asked) = let i = input in let a = c.args in c.run_bytes-bytes.ensures ∙ ap (λ (ps : List PacketMetadata). planned_bytes (take a.count (drop a.first ps))) (are-packets) ∙ sym (run_length i.mtu i.unit (known).unit_within (bytes) a.count a.first (omega (arith, enough, (known).plan_count))) in
-    (
-      record { small = (known).unit_within; obus_is = (known).obus_same; plan_is = (known).plan_same },
-      record { there = omega (arith, enough, (known).plan_count); room = rw (bytes-are) at c.if-out-bytes.false },
-    )
+    record { lent = record { small = (known).unit_within; obus_is = (known).obus_same; plan_is = (known).plan_same }; fits = record { there = omega (arith, enough, (known).plan_count); room = rw (bytes-are) at c.if-out-bytes.false } }
 
 pub returns-in-Refused : goal.returns-in-Refused
 returns-in-Refused c =

@@ -89,7 +89,7 @@ write_out-requires c =
     let taking : Taking (asked) c.args.all (z) (y) (joined) (from) c.finished_end-to.result = record { opening = c.requires; z_is = c.header_z-z.ensures; y_is = c.header_y-y.ensures; k_is = c.joining-joined.ensures; from_is = c.thrown_away-from.ensures; to_is = c.finished_end-to.ensures; } in
     let finishes : let a = c.args in Finishing a.payload.now c.first_cursor-cursor.result (from) c.finished_end-to.result a.store.now (joined) = finishing (taking) _ c.first_cursor-cursor.ensures in
     let b = counted in
-    (finishes, subst (RoomAt _ 0) (sym b.1) (omega (arith, c.if-bytes-out.false, b.2)))
+    record { finishing = finishes; room_at = subst (RoomAt _ 0) (sym b.1) (omega (arith, c.if-bytes-out.false, b.2)) }
 
 pub copy-requires : goal.copy-requires
 copy-requires c =

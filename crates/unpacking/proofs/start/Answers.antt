@@ -11,9 +11,6 @@ use Rattle.unpacking.proofs.Turning.{gives}
 use borrow.Author.Rules.{rules}
 use Rattle.unpacking.proofs.start.Goals as goal
 
-pub tie.close (tie.spec none-requires ask-requires returns) : {M : Type 1} → statement M
-
-
 pub returns : goal.returns
 returns c = let p = starts_with.place in
     gives p (ap (λ (l : Losses). record { wait = wait.Version; count = 0; width = 0; state = state_of fresh; losses = l }) c.none-losses.ensures) (omega arith)

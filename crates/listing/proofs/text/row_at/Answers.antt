@@ -7,10 +7,10 @@ use Rattle.aggregation.proofs.Calls.{given_whole}
 use Rattle.listing.proofs.text.row_at.Goals as goal
 
 pub new_at-new-requires : goal.new_at-new-requires
-new_at-new-requires c = (given_whole c.args.unit.now (obus_in c.args.obus.now) (packets_in c.args.plan.now) c.args.k c.requires.1).inside
+new_at-new-requires c = (given_whole c.args.unit.now (obus_in c.args.obus.now) (packets_in c.args.plan.now) c.args.k c.requires.headed).inside
 
 pub header_byte-header-requires : goal.header_byte-header-requires
-header_byte-header-requires c = (c.args.unit.now, c.requires.1)
+header_byte-header-requires c = (c.args.unit.now, c.requires.headed)
 
 pub returns : goal.returns
 returns c =

@@ -19,11 +19,11 @@ use Rattle.packetizer.proofs.cursor.next_packet.Goals as goal
 pub overflow_cast-i : goal.overflow_cast-i
 overflow_cast-i c =
     let of : List ℕ = sizes (obus_in c.args.obus.now) in
-    let few : length (of) ≤ unit_limit = omega (arith, total_count (of) c.requires.0.some, c.requires.0.total) in
-    omega (arith, few, c.requires.1.0)
+    let few : length (of) ≤ unit_limit = omega (arith, total_count (of) c.requires.walkable.some, c.requires.walkable.total) in
+    omega (arith, few, c.requires.obu_in_bounds.0)
 
 pub fill_packet-f-requires : goal.fill_packet-f-requires
-fill_packet-f-requires c = (c.requires.0, rw c.new_packet.ensures (record { within = omega (arith, c.requires.1.0); few = omega arith; fits = omega arith }))
+fill_packet-f-requires c = record { walkable = c.requires.walkable; fillable = rw c.new_packet.ensures (record { within = omega (arith, c.requires.obu_in_bounds.0); few = omega arith; fits = omega arith }) }
 
 pub returns-then-from-eq0 : goal.returns-then-from-eq0
 returns-then-from-eq0 c =
@@ -31,50 +31,50 @@ returns-then-from-eq0 c =
     let a = c.args in
     begins_with
     (ap (λ (o : ℕ). to_come a.room (of) a.obu o a.start) c.if-from-eq0.true
-    ∙ come_new a.room (of) a.obu c.requires.1.0 a.start
+    ∙ come_new a.room (of) a.obu c.requires.obu_in_bounds.0 a.start
     ∙ ap (plan_from a.room a.obu (drop a.obu (of))) (sym c.new_packet.ensures))
     c.fill_packet-f.ensures
 
 pub obu_at-requires : goal.obu_at-requires
-obu_at-requires c = omega (arith, c.requires.1.0, sizes_count c.args.obus.now)
+obu_at-requires c = omega (arith, c.requires.obu_in_bounds.0, sizes_count c.args.obus.now)
 
 pub overflow_sub-left : goal.overflow_sub-left
 overflow_sub-left c =
     let of : List ℕ = sizes (obus_in c.args.obus.now) in
-    let goes : c.args.from < get_or (of) c.args.obu 0 = (c.requires.1.1.inside c.if-from-eq0.false).1 in
+    let goes : c.args.from < get_or (of) c.args.obu 0 = (c.requires.obu_in_bounds.1.inside c.if-from-eq0.false).1 in
     let size : c.obu_at.result.size ≡ get_or (of) c.args.obu 0 = ap (λ (o : Obu). o.size) c.obu_at.ensures ∙ sym (size_at (obus_in c.args.obus.now) c.args.obu) in
     omega (arith, goes, size)
 
 pub returns-then-room-left : goal.returns-then-room-left
 returns-then-room-left c =
     let of : List ℕ = sizes (obus_in c.args.obus.now) in
-    let goes : c.args.from < get_or (of) c.args.obu 0 = (c.requires.1.1.inside c.if-from-eq0.false).1 in
+    let goes : c.args.from < get_or (of) c.args.obu 0 = (c.requires.obu_in_bounds.1.inside c.if-from-eq0.false).1 in
     let size : c.obu_at.result.size ≡ get_or (of) c.args.obu 0 = ap (λ (o : Obu). o.size) c.obu_at.ensures ∙ sym (size_at (obus_in c.args.obus.now) c.args.obu) in
     let a = c.args in
-    come_middle a.room (of) a.obu c.requires.1.0 a.from a.start c.if-from-eq0.false (goes) c.requires.0.large (omega (arith, size, c.if-room-left.true)) c.alone_in_packet.ensures
+    come_middle a.room (of) a.obu c.requires.obu_in_bounds.0 a.from a.start c.if-from-eq0.false (goes) c.requires.walkable.large (omega (arith, size, c.if-room-left.true)) c.alone_in_packet.ensures
 
 pub overflow_add-obu : goal.overflow_add-obu
 overflow_add-obu c =
     let of : List ℕ = sizes (obus_in c.args.obus.now) in
-    let few : length (of) ≤ unit_limit = omega (arith, total_count (of) c.requires.0.some, c.requires.0.total) in
-    omega (arith, few, c.requires.1.0)
+    let few : length (of) ≤ unit_limit = omega (arith, total_count (of) c.requires.walkable.some, c.requires.walkable.total) in
+    omega (arith, few, c.requires.obu_in_bounds.0)
 
 pub fill_packet-f-requires-2 : goal.fill_packet-f-requires-2
 fill_packet-f-requires-2 c =
     let of : List ℕ = sizes (obus_in c.args.obus.now) in
-    let goes : c.args.from < get_or (of) c.args.obu 0 = (c.requires.1.1.inside c.if-from-eq0.false).1 in
+    let goes : c.args.from < get_or (of) c.args.obu 0 = (c.requires.obu_in_bounds.1.inside c.if-from-eq0.false).1 in
     let size : c.obu_at.result.size ≡ get_or (of) c.args.obu 0 = ap (λ (o : Obu). o.size) c.obu_at.ensures ∙ sym (size_at (obus_in c.args.obus.now) c.args.obu) in
-    (c.requires.0, rw c.alone_in_packet-2.ensures (record { within = omega (arith, c.requires.1.0); few = omega (arith, goes, size); fits = omega (arith, c.if-room-left.false) }))
+    record { walkable = c.requires.walkable; fillable = rw c.alone_in_packet-2.ensures (record { within = omega (arith, c.requires.obu_in_bounds.0); few = omega (arith, goes, size); fits = omega (arith, c.if-room-left.false) }) }
 
 pub returns : goal.returns
 returns c =
     let of : List ℕ = sizes (obus_in c.args.obus.now) in
-    let goes : c.args.from < get_or (of) c.args.obu 0 = (c.requires.1.1.inside c.if-from-eq0.false).1 in
+    let goes : c.args.from < get_or (of) c.args.obu 0 = (c.requires.obu_in_bounds.1.inside c.if-from-eq0.false).1 in
     let size : c.obu_at.result.size ≡ get_or (of) c.args.obu 0 = ap (λ (o : Obu). o.size) c.obu_at.ensures ∙ sym (size_at (obus_in c.args.obus.now) c.args.obu) in
     let a = c.args in
     let from : PacketMetadata → List PacketMetadata = plan_from a.room (a.obu + 1) (drop (a.obu + 1) (of)) in
     begins_with
-    (come_last a.room (of) a.obu c.requires.1.0 a.from a.start c.if-from-eq0.false (goes) c.requires.0.large (omega (arith, size, c.if-room-left.false))
+    (come_last a.room (of) a.obu c.requires.obu_in_bounds.0 a.from a.start c.if-from-eq0.false (goes) c.requires.walkable.large (omega (arith, size, c.if-room-left.false))
     ∙ ap (λ (m : ℕ). from (alone a.obu a.from (m - a.from) a.start)) (sym (size))
     ∙ ap from (sym c.alone_in_packet-2.ensures))
     c.fill_packet-f-2.ensures

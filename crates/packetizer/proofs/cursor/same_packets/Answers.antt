@@ -31,7 +31,7 @@ loop-obu-init c =
 pub next_packet-next-requires : goal.next_packet-next-requires
 next_packet-next-requires c =
     let least : least_mtu ≤ c.args.mtu = omega (arith, c.if-mtu-lt-LEAST_MTU.false) in
-    (walkable (least) c.requires, (omega (arith, c.loop-obu-test.true, sizes_count c.args.obus.now), c.loop-obu.invariant.starts))
+    record { walkable = walkable (least) c.requires; obu_in_bounds = (omega (arith, c.loop-obu-test.true, sizes_count c.args.obus.now), c.loop-obu.invariant.starts) }
 
 pub same_record-requires : goal.same_record-requires
 same_record-requires c =

@@ -5,8 +5,6 @@ use Rattle.packetizer.proofs.Steps.{charge_none, charge_paid, charge_last}
 use borrow.Author.Rules.{rules}
 use Rattle.packetizer.proofs.packet.additional_bytes_for_previous_obu_element.Goals as goal
 
-}
-
 pub returns-then-p-eq0 : goal.returns-then-p-eq0
 returns-then-p-eq0 c = sym (charge_none c.args.p c.if-p-eq0.true)
 
