@@ -24,18 +24,6 @@ overflow_mul-filled c =
     let filled : Filled c.args.unit.now c.args.obus.now c.parse_obus.new.obus c.in-Listed.listed = record { answer = sym (ap paper_list c.in-Listed.is) ∙ c.parse_obus.ensures.0; after = c.parse_obus.ensures.1; } in
     omega (arith, list_long (filled))
 
-pub slice_bounds-packetize-end : goal.slice_bounds-packetize-end
-slice_bounds-packetize-end c =
-    let filled : Filled c.args.unit.now c.args.obus.now c.parse_obus.new.obus c.in-Listed.listed = record { answer = sym (ap paper_list c.in-Listed.is) ∙ c.parse_obus.ensures.0; after = c.parse_obus.ensures.1; } in
-    let long : c.in-Listed.listed.obus * obu_numbers ≤ length c.parse_obus.new.obus = omega (arith, list_long (filled), c.parse_obus.auto.obus.0) in
-    long
-
-pub slice_bounds-packetize-end-in-Listed : goal.slice_bounds-packetize-end-in-Listed
-slice_bounds-packetize-end-in-Listed c =
-    let filled : Filled c.args.unit.now c.args.obus.now c.parse_obus.new.obus c.in-Listed.listed = record { answer = sym (ap paper_list c.in-Listed.is) ∙ c.parse_obus.ensures.0; after = c.parse_obus.ensures.1; } in
-    let long : c.in-Listed.listed.obus * obu_numbers ≤ length c.parse_obus.new.obus = omega (arith, list_long (filled), c.parse_obus.auto.obus.0) in
-    sym (length-take-le _ _ (long))
-
 pub packetize-packets-requires : goal.packetize-packets-requires
 packetize-packets-requires c =
     let filled : Filled c.args.unit.now c.args.obus.now c.parse_obus.new.obus c.in-Listed.listed = record { answer = sym (ap paper_list c.in-Listed.is) ∙ c.parse_obus.ensures.0; after = c.parse_obus.ensures.1; } in
@@ -49,18 +37,6 @@ returns-then-plan-packets c =
     let a = c.args in
     let f = filled in
     outcome_9 a.mtu a.unit.now a.obus.now a.plan.now c.if-mtu-gt-MTU_LIMIT.false _ f.after _ _ _ f.answer (count) (omega (arith, c.if-plan-packets.true, c.packetize-packets.new.plan)) c.packetize-packets.ensures.1
-
-pub slice_bounds-packetize-end-in-Listed-2 : goal.slice_bounds-packetize-end-in-Listed-2
-slice_bounds-packetize-end-in-Listed-2 c =
-    let filled : Filled c.args.unit.now c.args.obus.now c.parse_obus.new.obus c.in-Listed.listed = record { answer = sym (ap paper_list c.in-Listed.is) ∙ c.parse_obus.ensures.0; after = c.parse_obus.ensures.1; } in
-    let long : c.in-Listed.listed.obus * obu_numbers ≤ length c.parse_obus.new.obus = omega (arith, list_long (filled), c.parse_obus.auto.obus.0) in
-    long
-
-pub slice_bounds-packetize-end-in-Listed-3 : goal.slice_bounds-packetize-end-in-Listed-3
-slice_bounds-packetize-end-in-Listed-3 c =
-    let filled : Filled c.args.unit.now c.args.obus.now c.parse_obus.new.obus c.in-Listed.listed = record { answer = sym (ap paper_list c.in-Listed.is) ∙ c.parse_obus.ensures.0; after = c.parse_obus.ensures.1; } in
-    let long : c.in-Listed.listed.obus * obu_numbers ≤ length c.parse_obus.new.obus = omega (arith, list_long (filled), c.parse_obus.auto.obus.0) in
-    sym (length-take-le _ _ (long))
 
 pub packetize-requires : goal.packetize-requires
 packetize-requires c =
@@ -82,3 +58,27 @@ returns-else-plan-packets c =
     let f = filled in
     outcome_all a.mtu a.unit.now a.obus.now a.plan.now c.if-mtu-gt-MTU_LIMIT.false _ f.after _ _ _ f.answer (count) (omega (arith, c.if-plan-packets.false, c.packetize-packets.new.plan))
     (c.packetize.ensures.1 ∙ ap₂ (λ (x : List ℕ) (ps : List PacketMetadata). recorded true x 0 ps) c.packetize-packets.ensures.1 (plan_is))
+
+pub slice_bounds-packetize-end : goal.slice_bounds-packetize-end
+slice_bounds-packetize-end c =
+    let filled : Filled c.args.unit.now c.args.obus.now c.parse_obus.new.obus c.in-Listed.listed = record { answer = sym (ap paper_list c.in-Listed.is) ∙ c.parse_obus.ensures.0; after = c.parse_obus.ensures.1; } in
+    let long : c.in-Listed.listed.obus * obu_numbers ≤ length c.parse_obus.new.obus = omega (arith, list_long (filled), c.parse_obus.auto.obus) in
+    long
+
+pub slice_bounds-packetize-end-in-Listed : goal.slice_bounds-packetize-end-in-Listed
+slice_bounds-packetize-end-in-Listed c =
+    let filled : Filled c.args.unit.now c.args.obus.now c.parse_obus.new.obus c.in-Listed.listed = record { answer = sym (ap paper_list c.in-Listed.is) ∙ c.parse_obus.ensures.0; after = c.parse_obus.ensures.1; } in
+    let long : c.in-Listed.listed.obus * obu_numbers ≤ length c.parse_obus.new.obus = omega (arith, list_long (filled), c.parse_obus.auto.obus) in
+    sym (length-take-le _ _ (long))
+
+pub slice_bounds-packetize-end-in-Listed-2 : goal.slice_bounds-packetize-end-in-Listed-2
+slice_bounds-packetize-end-in-Listed-2 c =
+    let filled : Filled c.args.unit.now c.args.obus.now c.parse_obus.new.obus c.in-Listed.listed = record { answer = sym (ap paper_list c.in-Listed.is) ∙ c.parse_obus.ensures.0; after = c.parse_obus.ensures.1; } in
+    let long : c.in-Listed.listed.obus * obu_numbers ≤ length c.parse_obus.new.obus = omega (arith, list_long (filled), c.parse_obus.auto.obus) in
+    long
+
+pub slice_bounds-packetize-end-in-Listed-3 : goal.slice_bounds-packetize-end-in-Listed-3
+slice_bounds-packetize-end-in-Listed-3 c =
+    let filled : Filled c.args.unit.now c.args.obus.now c.parse_obus.new.obus c.in-Listed.listed = record { answer = sym (ap paper_list c.in-Listed.is) ∙ c.parse_obus.ensures.0; after = c.parse_obus.ensures.1; } in
+    let long : c.in-Listed.listed.obus * obu_numbers ≤ length c.parse_obus.new.obus = omega (arith, list_long (filled), c.parse_obus.auto.obus) in
+    sym (length-take-le _ _ (long))

@@ -25,11 +25,6 @@ start_after-next-requires c = rw c.alone_in_packet-p.ensures (spreading_near c.l
 pub loop-offset-smaller : goal.loop-offset-smaller
 loop-offset-smaller c = omega (arith, c.requires.le_room, c.loop-offset.invariant.inside, c.loop-offset-test.true)
 
-pub loop-offset-preserved : goal.loop-offset-preserved
-loop-offset-preserved c = let p = c.put_record in
-    rw c.start_after-next.ensures
-    (spreading_next c.loop-offset.invariant c.requires.le_room.0 c.loop-offset-test.true p.kept.0 c.alone_in_packet-p.ensures p.ensures)
-
 pub overflow_sub-size-2 : goal.overflow_sub-size-2
 overflow_sub-size-2 c = omega (arith, c.loop-offset.invariant.inside)
 
@@ -38,3 +33,8 @@ shape_of-plan c = c.loop-offset.invariant.kept
 
 pub returns : goal.returns
 returns c = spreading_end c.loop-offset.invariant c.loop-offset-test.false c.alone_in_packet.ensures
+
+pub loop-offset-preserved : goal.loop-offset-preserved
+loop-offset-preserved c = 
+    rw c.start_after-next.ensures
+    (spreading_next c.loop-offset.invariant c.requires.le_room.0 c.loop-offset-test.true c.put_record.auto.plan c.alone_in_packet-p.ensures c.put_record.ensures)

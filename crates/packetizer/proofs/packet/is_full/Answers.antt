@@ -10,17 +10,21 @@ use Rattle.packetizer.specs.declared.PacketMetadata.{PacketMetadata}
 use Rattle.packetizer.proofs.Steps.{charge_most}
 use borrow.Author.Rules.{rules}
 use Rattle.packetizer.proofs.packet.is_full.Goals as goal
+use Rattle.packetizer.proofs.packet.is_full.Goals.{then-p-ge-MAX_NUM_OBUS_TO_OMIT_SIZE, else-p-ge-MAX_NUM_OBUS_TO_OMIT_SIZE}
 
 pub overflow_add-result : goal.overflow_add-result
 overflow_add-result c =
-    let low : c.if-p-ge-MAX_NUM_OBUS_TO_OMIT_SIZE.least ≤ 2 = ⊎_elim (λ w. omega (arith, w.1)) (λ w. omega (arith, w.1)) c.if-p-ge-MAX_NUM_OBUS_TO_OMIT_SIZE.branch in
-    let packet : PacketMetadata = c.args.p in
-    omega (arith, low, c.additional_bytes_for_previous_obu_element-charge.ensures, charge_most (packet))
+    let low : c.if-p-ge-MAX_NUM_OBUS_TO_OMIT_SIZE.least ≤ 2 = elim c.if-p-ge-MAX_NUM_OBUS_TO_OMIT_SIZE.branch [
+      | then-p-ge-MAX_NUM_OBUS_TO_OMIT_SIZE w ↦ omega (arith, w.least-is)
+      | else-p-ge-MAX_NUM_OBUS_TO_OMIT_SIZE w ↦ omega (arith, w.least-is)
+    ] in
+    omega (arith, low, c.additional_bytes_for_previous_obu_element-charge.ensures, charge_most c.args.p)
 
 pub returns : goal.returns
 unfolding is_full
 returns c =
-    let packet : PacketMetadata = c.args.p in
-    let least : c.if-p-ge-MAX_NUM_OBUS_TO_OMIT_SIZE.least ≡ cond (fourth_or_later (packet)) 2 1 = ⊎_elim (λ w. w.1 ∙ sym (ap (λ (t : Bool). cond t 2 1) (le-leb most_counted (packet).num_obu_elements w.0.taken))) (λ w. w.1 ∙ sym (ap (λ (t : Bool). cond t 2 1) (lt-leb most_counted (packet).num_obu_elements w.0.left))) c.if-p-ge-MAX_NUM_OBUS_TO_OMIT_SIZE.branch in
-    let a = c.args in
-    ap₂ (λ (m n : ℕ). ltb (left_in a.room a.p) (m + n)) c.additional_bytes_for_previous_obu_element-charge.ensures (least)
+    let least : c.if-p-ge-MAX_NUM_OBUS_TO_OMIT_SIZE.least ≡ cond (fourth_or_later c.args.p) 2 1 = elim c.if-p-ge-MAX_NUM_OBUS_TO_OMIT_SIZE.branch [
+      | then-p-ge-MAX_NUM_OBUS_TO_OMIT_SIZE w ↦ w.least-is ∙ sym (ap (λ (t : Bool). cond t 2 1) (le-leb most_counted c.args.p.num_obu_elements w.if-p-ge-MAX_NUM_OBUS_TO_OMIT_SIZE.true))
+      | else-p-ge-MAX_NUM_OBUS_TO_OMIT_SIZE w ↦ w.least-is ∙ sym (ap (λ (t : Bool). cond t 2 1) (lt-leb most_counted c.args.p.num_obu_elements w.if-p-ge-MAX_NUM_OBUS_TO_OMIT_SIZE.false))
+    ] in
+    ap₂ (λ (m n : ℕ). ltb (left_in c.args.room c.args.p) (m + n)) c.additional_bytes_for_previous_obu_element-charge.ensures least

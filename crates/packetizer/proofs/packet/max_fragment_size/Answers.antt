@@ -4,6 +4,7 @@ use native.Mathlib.Omega.{arith}
 use Rattle.leb128.specs.Laws.{cap}
 use Rattle.packetizer.proofs.Fragments.{Shifting, largest_none, shifting_room, shifting_end}
 use Rattle.packetizer.proofs.packet.max_fragment_size.Goals as goal
+use Rattle.packetizer.proofs.packet.max_fragment_size.Goals.{then-left-lt129, else-left-lt129+then-left-lt16386, else-left-lt129+else-left-lt16386+then-left-lt2097155, else-left-lt129+else-left-lt16386+else-left-lt2097155+then-left-lt268435460, else-left-lt129+else-left-lt16386+else-left-lt2097155+else-left-lt268435460}
 
 -- a room of r bytes whose length field has i
 abbrev Among : ℕ → ℕ → Type 0
@@ -17,10 +18,22 @@ returns-then-left-le1 c = largest_none c.args.left c.if-left-le1.true
 
 pub overflow_sub-result : goal.overflow_sub-result
 overflow_sub-result c =
-    let among : Among c.args.left c.if-left-lt129.field = ⊎_elim (λ w. rw w.1 (omega arith)) (⊎_elim (λ w. rw w.2 (omega arith)) (⊎_elim (λ w. rw w.3 (omega arith)) (⊎_elim (λ w. rw w.4 (omega arith)) (λ w. rw w.4 (omega arith))))) c.if-left-lt129.branch in
-    shifting_room _ _ (shifting (among))
+    let among : Among c.args.left c.if-left-lt129.field = elim c.if-left-lt129.branch [
+      | then-left-lt129 w ↦ rw w.field-is (omega arith)
+      | else-left-lt129+then-left-lt16386 w ↦ rw w.field-is (omega arith)
+      | else-left-lt129+else-left-lt16386+then-left-lt2097155 w ↦ rw w.field-is (omega arith)
+      | else-left-lt129+else-left-lt16386+else-left-lt2097155+then-left-lt268435460 w ↦ rw w.field-is (omega arith)
+      | else-left-lt129+else-left-lt16386+else-left-lt2097155+else-left-lt268435460 w ↦ rw w.field-is (omega arith)
+    ] in
+    shifting_room _ _ (shifting among)
 
 pub returns : goal.returns
 returns c =
-    let among : Among c.args.left c.if-left-lt129.field = ⊎_elim (λ w. rw w.1 (omega arith)) (⊎_elim (λ w. rw w.2 (omega arith)) (⊎_elim (λ w. rw w.3 (omega arith)) (⊎_elim (λ w. rw w.4 (omega arith)) (λ w. rw w.4 (omega arith))))) c.if-left-lt129.branch in
-    let a = among in shifting_end _ _ (shifting a) a.4
+    let among : Among c.args.left c.if-left-lt129.field = elim c.if-left-lt129.branch [
+      | then-left-lt129 w ↦ rw w.field-is (omega arith)
+      | else-left-lt129+then-left-lt16386 w ↦ rw w.field-is (omega arith)
+      | else-left-lt129+else-left-lt16386+then-left-lt2097155 w ↦ rw w.field-is (omega arith)
+      | else-left-lt129+else-left-lt16386+else-left-lt2097155+then-left-lt268435460 w ↦ rw w.field-is (omega arith)
+      | else-left-lt129+else-left-lt16386+else-left-lt2097155+else-left-lt268435460 w ↦ rw w.field-is (omega arith)
+    ] in
+    shifting_end _ _ (shifting among) among.4
