@@ -70,3 +70,35 @@ shape_of-out c = c.loop-i.invariant.same
 
 pub returns : goal.returns
 returns c = handing_end c.loop-i.invariant c.requires.finishing.whole c.loop-i-test.false
+
+pub together-sum-requires : goal.together-sum-requires
+together-sum-requires c =
+    let part : Part = c.part_at-part.result in
+    let obu : List ℕ = let a = c.args in across a.store.now c.loop-i.kept a.payload.now (part).start (part).length in
+    let bytesOut : (b : List ℕ) × (wire (obu) ≡ given b) × (c.in-Bytes.one ≡ handed_of (cond (padded_size (obu)) 1 0) b) = counted_given _ (sym (ap paper_handed c.in-Bytes.is) ∙ c.finish_obu.ensures.0) in
+    let some : c.loop-i.i < length (parts_of c.args.payload.now) = omega (arith, c.loop-i-test.true, c.requires.finishing.to_in) in
+    let seen : let l = c.args.payload.now in let v = c.loop-i in element_at c.has_field.result v.at (drop v.at l) ≡ given (get_or (parts_of l) v.i nowhere) = let l = c.args.payload.now in let v = c.loop-i in ap (λ (c : Bool). element_at c v.at (drop v.at l)) (c.has_field.ensures ∙ ap (λ (w : ℕ). has_field w v.i) c.header_w-w.ensures) ∙ ap (λ (n : ℕ). element_at (has_field (w_of (get_or l 0 0)) v.i) n (drop n l)) v.invariant.cursor ∙ read_at l (parts_of l) c.requires.finishing.whole v.i (some) in
+    let here : part ≡ get_or (parts_of c.args.payload.now) c.loop-i.i nowhere = let e : given (part) ≡ given (get_or (parts_of c.args.payload.now) c.loop-i.i nowhere) = c.part_at-part.ensures ∙ seen in cc in
+    let b = bytesOut in
+    let v = c.loop-i.invariant in
+    let w = c.requires.finishing.whole in
+    let l = handing_part v w (here) c.loop-i-test.true (some) in
+    let m = handing_most v w (here) c.loop-i-test.true (some) b.0 b.1 in
+    let s = payload_small c.args.payload.now (parts_of c.args.payload.now) w in (
+      omega (arith, ap (λ (h : Handed). h.bytes) b.2, l, m, v.bound, s),
+      omega (arith, ap (λ (h : Handed). h.padded) b.2, l, sizes_one (obu), v.few, s),
+    )
+
+pub shape_of-out-in-Refused : goal.shape_of-out-in-Refused
+shape_of-out-in-Refused c = c.finish_obu.auto.out ∙ c.loop-i.invariant.same
+
+pub loop-i-preserved : goal.loop-i-preserved
+loop-i-preserved c =
+    let part : Part = c.part_at-part.result in
+    let obu : List ℕ = let a = c.args in across a.store.now c.loop-i.kept a.payload.now (part).start (part).length in
+    let bytesOut : (b : List ℕ) × (wire (obu) ≡ given b) × (c.in-Bytes.one ≡ handed_of (cond (padded_size (obu)) 1 0) b) = counted_given _ (sym (ap paper_handed c.in-Bytes.is) ∙ c.finish_obu.ensures.0) in
+    let some : c.loop-i.i < length (parts_of c.args.payload.now) = omega (arith, c.loop-i-test.true, c.requires.finishing.to_in) in
+    let seen : let l = c.args.payload.now in let v = c.loop-i in element_at c.has_field.result v.at (drop v.at l) ≡ given (get_or (parts_of l) v.i nowhere) = let l = c.args.payload.now in let v = c.loop-i in ap (λ (c : Bool). element_at c v.at (drop v.at l)) (c.has_field.ensures ∙ ap (λ (w : ℕ). has_field w v.i) c.header_w-w.ensures) ∙ ap (λ (n : ℕ). element_at (has_field (w_of (get_or l 0 0)) v.i) n (drop n l)) v.invariant.cursor ∙ read_at l (parts_of l) c.requires.finishing.whole v.i (some) in
+    let here : part ≡ get_or (parts_of c.args.payload.now) c.loop-i.i nowhere = let e : given (part) ≡ given (get_or (parts_of c.args.payload.now) c.loop-i.i nowhere) = c.part_at-part.ensures ∙ seen in cc in
+    let b = bytesOut in
+    handing_next c.loop-i.invariant c.requires.finishing.whole (here) c.loop-i-test.true (some) b.1 b.2 c.together-sum.ensures c.finish_obu.auto.out c.finish_obu.ensures.1
