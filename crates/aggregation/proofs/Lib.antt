@@ -4,5 +4,3 @@ pub mod Sequences
 pub mod Calls
 pub mod Laws
 pub mod Headers
-pub mod Callees
-pub mod Turns

@@ -16,8 +16,8 @@ use mathlib.Core.List.{List, [], ◌∷◌, ◌++◌}
 use lib.Dec.{T}
 use lib.ListN.{length, get_or}
 use seplogic.Ra.Ura.{Ura}
-use seplogic.Ra.TreeShare.{full_share}
-use mir.Syntax.{Lifetime, Local, local, Name, Opd as Operand, Ty, field, copy, Rv as RValue, Place, place, Body, skip, seq, assign, cond, exit, call}
+use base.Fraction.{full_share}
+use mir.Syntax.{Lifetime, Local, local, Callee, Opd as Operand, Ty, field, copy, Rv as RValue, Place, place, Body, skip, seq, assign, cond, exit, call}
 use mir.Val.{Val, vbool}
 use base.Logic.{SProp, ent, emp}
 use base.Fml.{Lft, Share, Fml, ftrue, fat, fsep, flft, fobor, froom, fdies}
@@ -102,7 +102,7 @@ module _ {M : Type 1} {𝓤 : Ura M} {𝓛 : Logic 𝓤} {K : Type 0} {Γ : List
         → Writes K 𝓛 Γ (spot_of 𝓤 H E i).0 (spot_of 𝓤 H E i).1 0 v Γ' → Step K 𝓛 Γ' (runs C Λ E rest q) Γ (runs C Λ E (seq (assign (place i []) rv) rest) q)
     puts t r w = assigns t r (from t (stop t)) w
 
-  module _ {E : Env 𝓤 H} {C : Calls 𝓤 H} {Λ : Loops 𝓤 H} {q : Post 𝓤 H} {f : Name} {xs : List Operand} {d : Place} {rest : Body} where
+  module _ {E : Env 𝓤 H} {C : Calls 𝓤 H} {Λ : Loops 𝓤 H} {q : Post 𝓤 H} {f : Callee} {xs : List Operand} {d : Place} {rest : Body} where
     pub calls_plain : K → FmC 𝓤 H 𝓛.laws C → (c : Contract 𝓤) → Triple 𝓤 (C f) c → (x : c.Ghost) → ent 𝓤 (emp 𝓤) (c.pre x)
         → (R : RattleType) (S : R.Denot → SProp 𝓤) → ((v : Val) → ent 𝓤 (c.post x v) (mean 𝓛 (later (some (λ (r : R.Denot). (‵ ftrue ⊛ ‵ (R.own_val r (v ∷ []))) ⊛ raw (S r))))))
         → (φ : R.Denot → Type 0) → ((r : R.Denot) → ent 𝓤 (S r) (fact 𝓤 (φ r)))
