@@ -2,8 +2,6 @@
 --     var, member, puts    a local, or its field k, as an operand, by its entry in the context; and a local is written
 --     goes_on      the code after a branch that returned in its other arm
 --     tests        the test of a `while`, at the head of a turn: the turn goes on, or the loop is left
---     rec-open     what a `&κ [S]` owns ∗ [κ]_q, with i below the length: a share of record i's cell at its place, what shuts it (`Opened`), and what the slice owns as before. The record's relation is in hand
---     rec-shut     the cell and what shuts it: [κ]_q again
 --     calls-plain  a call of a function that takes and returns plain data: what it asks is made from nothing, and of what it leaves the result's relation and the clause are in hand. The operands are read with one entry more in front
 --     env_at        the environment of the code's locals, at their blocks
 --     free_all     the locals, each empty or with a value, are freed in their order
@@ -59,29 +57,8 @@ pairs_down (suc n) = (2 * n) ∷ (2 * n + 1) ∷ pairs_down n
 abbrev pub in_order : ℕ → ℕ → List ℕ
 in_order g n = up_from (2 * n) g ++ pairs_down n
 
--- what shuts record i again: what it owns, the others, and the open borrow
-abbrev pub Opened : (R : RattleType) → Lft → Share → Share → List R.Denot → ℕ → R.Denot → List Val → ℕ → ℕ → Fml
-Opened R κ q q' ys i d vs b o = fsep (R.own_val (get_or ys i d) vs) (fsep (others (shares R) q' ys i b o) (fobor κ q ((arr_parts (shares R) (length ys)).part q' ys b o)))
-
 module _ {M : Type 1} {𝓤 : Ura M} {𝓛 : Logic 𝓤} {K : Type 0} {Γ : List (Item 𝓤)} where
   open 𝓛 use {H}
-
-  module _ {G : Goal 𝓤 H} where
-    pub rec_open : K → Soaks G → (T : Declared) (L : LL.Laws T) → LL.Copyables T.parts → (ℓ : Lifetime) {κ : Lft} {q : Share} (x : Bor (List T.D)) (i : ℕ) (d : T.D) → i < length x.now
-        → ((q' : Share) → Is (row T) (get_or x.now i d) (LL.vals T L (get_or x.now i d))
-        → Seq K 𝓛 (‵ (cell_at q' (row T).mir (LL.vals T L (get_or x.now i d)) x.ref_ptr.0 (place_at (mem (row T)).size x.ref_ptr.1 i)) ∷ ‵ (Opened (row T) κ q q' x.now i d (LL.vals T L (get_or x.now i d)) x.ref_ptr.0 x.ref_ptr.1) ∷ ‵ ((ShrSlice ℓ κ (row T)).own_val x (shr_slice_vals x)) ∷ Γ) G)
-        → Seq K 𝓛 (‵ ((ShrSlice ℓ κ (row T)).own_val x (shr_slice_vals x)) ∷ ‵ (flft κ q) ∷ Γ) G
-    rec_open t z T L cp ℓ {κ} {q} x i d l k =
-        use1 𝓛 (‵ ((ShrSlice ℓ κ (row T)).own_val x (shr_slice_vals x)) ⊛ ‵ ((ShrSlice ℓ κ (row T)).own_val x (shr_slice_vals x))) ((shr_slice_copy 𝓛 ℓ κ (row T)).twice x (shr_slice_vals x)) $ split t $ fsplit t $ drop t $ fsplit t $ drop t $ move t (0 ∷ 2 ∷ []) $
-        looks_slice t z (row T) (Is (row T)) (shows 𝓛 (row T)) (LL.vals T L) (LL.tells T L) (LL.copy T cp 𝓛) x.now x.ref_ptr.0 x.ref_ptr.1 (λ q'.
-        elem_out t (row T) (Is (row T)) (shows 𝓛 (row T)) (LL.vals T L) (LL.tells T L) q' x.now i d x.ref_ptr.0 x.ref_ptr.1 l (λ g.
-        -- [the cell; what it owns; the others; the open borrow; the fractured borrow; what the slice owns; …]
-        move t (4 ∷ []) $ drop t $ move t (2 ∷ 3 ∷ []) $ fjoin t $ move t (2 ∷ 0 ∷ []) $ fjoin t $ move t (1 ∷ 0 ∷ []) $ k q' g))
-
-    pub rec_shut : K → Soaks G → (T : Declared) (L : LL.Laws T) {κ : Lft} {q : Share} (q' : Share) (x : Bor (List T.D)) (i : ℕ) (d : T.D) → i < length x.now
-        → Step K 𝓛 (‵ (flft κ q) ∷ Γ) G (‵ (cell_at q' (row T).mir (LL.vals T L (get_or x.now i d)) x.ref_ptr.0 (place_at (mem (row T)).size x.ref_ptr.1 i)) ∷ ‵ (Opened (row T) κ q q' x.now i d (LL.vals T L (get_or x.now i d)) x.ref_ptr.0 x.ref_ptr.1) ∷ Γ) G
-    rec_shut t z T L q' x i d l = step (λ s. move t (1 ∷ []) $ fsplit t $ move t (1 ∷ []) $ fsplit t $ move t (3 ∷ 2 ∷ 0 ∷ 1 ∷ []) $
-        elem_back t (row T) q' x.now i d (LL.vals T L (get_or x.now i d)) x.ref_ptr.0 x.ref_ptr.1 l $ shuts_slice t z (row T) q' x.now x.ref_ptr.0 x.ref_ptr.1 $ s)
 
   pub goes_on : K → (C : Calls 𝓤 H) (Λ : Loops 𝓤 H) (E : Env 𝓤 H) (b : Body) (P : Val → SProp 𝓤) → Step K 𝓛 Γ (runs C Λ E b (at_ret E P)) Γ (prop (Wp 𝓤 H C Λ E b (post 𝓤 H (at_ret E P))))
   goes_on t C Λ E b P = exec t C Λ E b (at_ret E P)
