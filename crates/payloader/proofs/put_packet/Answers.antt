@@ -44,16 +44,6 @@ overflow_add-cursor c =
     let payload_long : length (payload_at c.args.mtu c.args.unit.now c.args.k) ≡ 1 + (length (payload_at c.args.mtu c.args.unit.now c.args.k) - 1) = omega (arith, ap length (payload_is c.args.mtu c.args.unit.now c.args.k c.requires.lent.small c.requires.writable.there)) in
     omega (arith, c.requires.writable.room, payload_long)
 
-pub loop-left-init : goal.loop-left-init
-loop-left-init c =
-    let unit : List ℕ = c.args.unit.now in
-    let is-packet : c.packet_at-p.result ≡ get_or (unit_plan c.args.mtu (unit)) c.args.k no_packet = c.packet_at-p.ensures ∙ ap (λ (l : List ℕ). get_or (packets_in l) c.args.k no_packet) c.requires.lent.plan_is ∙ ap (λ (ps : List PacketMetadata). get_or ps c.args.k no_packet) (packets_flat (unit_plan c.args.mtu (unit))) in
-    let bytes : Bytes (unit) = λ i. (c.shared_slice_known-1.given i).fits in
-    let are-obus : obus_in c.args.obus.now ≡ obus_of (unit) = ap obus_in c.requires.lent.obus_is ∙ unit_flat (unit) (bytes) in
-    let is-header : c.header_byte.result ≡ byte_of (unit) (obus_of (unit)) (get_or (unit_plan c.args.mtu (unit)) c.args.k no_packet) c.args.k = c.header_byte.ensures (unit) (c.requires.writable.New-is ∙ ap (λ (os : List Obu). eqb c.args.k 0 && new_sequence (unit) os) (sym (are-obus))) ∙ ap₂ (λ (os : List Obu) (p : PacketMetadata). byte_of (unit) os p c.args.k) (are-obus) (sym c.packet_at-p.ensures ∙ is-packet) in
-    let a = c.args in
-    rw (is-packet, is-header) (writing_first a.mtu a.unit.now a.k c.requires.lent.small c.requires.writable.there a.out.now a.at c.requires.writable.room)
-
 pub obu_at-o-requires : goal.obu_at-o-requires
 obu_at-o-requires c =
     let unit : List ℕ = c.args.unit.now in
@@ -119,7 +109,7 @@ put_element-requires c =
 
 pub shape_of-out : goal.shape_of-out
 shape_of-out c = let a = c.args in
-    c.put_element.auto.out.1.1.1.1.0 ∙ c.loop-left.invariant.storing.same ∙ length-set a.out.now a.at c.header_byte.result
+    c.put_element.auto.out ∙ c.loop-left.invariant.storing.same ∙ length-set a.out.now a.at c.header_byte.result
 
 pub returns : goal.returns
 returns c =
@@ -131,9 +121,19 @@ returns c =
     let are-obus : obus_in c.args.obus.now ≡ obus_of (unit) = ap obus_in c.requires.lent.obus_is ∙ unit_flat (unit) (bytes) in
     let is_last : c.obu_at-o-2.result ≡ obu = c.obu_at-o-2.ensures ∙ ap (λ (os : List Obu). get_or os c.loop-left.i no_obu) (are-obus) in
     let is-packet : c.packet_at-p.result ≡ get_or (unit_plan c.args.mtu (unit)) c.args.k no_packet = c.packet_at-p.ensures ∙ ap (λ (l : List ℕ). get_or (packets_in l) c.args.k no_packet) c.requires.lent.plan_is ∙ ap (λ (ps : List PacketMetadata). get_or ps c.args.k no_packet) (packets_flat (unit_plan c.args.mtu (unit))) in
-    let is-header : c.header_byte.result ≡ byte_of (unit) (obus_of (unit)) (get_or (unit_plan c.args.mtu (unit)) c.args.k no_packet) c.args.k = c.header_byte.ensures (unit) (c.requires.writable.New-is ∙ ap (λ (os : List Obu). eqb c.args.k 0 && new_sequence (unit) os) (sym (are-obus))) ∙ ap₂ (λ (os : List Obu) (p : PacketMetadata). byte_of (unit) os p c.args.k) (are-obus) (sym c.packet_at-p.ensures ∙ is-packet) in
+    let is-header : c.header_byte.result ≡ byte_of (unit) (obus_of (unit)) (get_or (unit_plan c.args.mtu (unit)) c.args.k no_packet) c.args.k = c.header_byte.ensures (unit) (c.requires.writable.new_is ∙ ap (λ (os : List Obu). eqb c.args.k 0 && new_sequence (unit) os) (sym (are-obus))) ∙ ap₂ (λ (os : List Obu) (p : PacketMetadata). byte_of (unit) os p c.args.k) (are-obus) (sym c.packet_at-p.ensures ∙ is-packet) in
     let a = c.args in
     let z = writing_last c.loop-left.invariant (lies) (one_left) c.obu_at-o-2.result (is_last) in
     let r = c.put_element.ensures in
     packet_written a.mtu a.unit.now a.k c.requires.lent.small c.requires.writable.there c.packet_at-p.result c.header_byte.result (is-packet) (is-header) a.out.now a.at
     (r.0 ∙ z.0, r.1 ∙ z.1)
+
+pub loop-left-init : goal.loop-left-init
+loop-left-init c =
+    let unit : List ℕ = c.args.unit.now in
+    let is-packet : c.packet_at-p.result ≡ get_or (unit_plan c.args.mtu (unit)) c.args.k no_packet = c.packet_at-p.ensures ∙ ap (λ (l : List ℕ). get_or (packets_in l) c.args.k no_packet) c.requires.lent.plan_is ∙ ap (λ (ps : List PacketMetadata). get_or ps c.args.k no_packet) (packets_flat (unit_plan c.args.mtu (unit))) in
+    let bytes : Bytes (unit) = λ i. (c.shared_slice_known-1.given i).fits in
+    let are-obus : obus_in c.args.obus.now ≡ obus_of (unit) = ap obus_in c.requires.lent.obus_is ∙ unit_flat (unit) (bytes) in
+    let is-header : c.header_byte.result ≡ byte_of (unit) (obus_of (unit)) (get_or (unit_plan c.args.mtu (unit)) c.args.k no_packet) c.args.k = c.header_byte.ensures (unit) (c.requires.writable.new_is ∙ ap (λ (os : List Obu). eqb c.args.k 0 && new_sequence (unit) os) (sym (are-obus))) ∙ ap₂ (λ (os : List Obu) (p : PacketMetadata). byte_of (unit) os p c.args.k) (are-obus) (sym c.packet_at-p.ensures ∙ is-packet) in
+    let a = c.args in
+    rw (is-packet, is-header) (writing_first a.mtu a.unit.now a.k c.requires.lent.small c.requires.writable.there a.out.now a.at c.requires.writable.room)
