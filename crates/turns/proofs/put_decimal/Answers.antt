@@ -4,10 +4,10 @@ use Rattle.turns.proofs.Digits.{digits_are, digits_most}
 use Rattle.turns.proofs.put_decimal.Goals as goal
 
 pub put_text-requires : goal.put_text-requires
-put_text-requires c = omega (arith, c.decimal-digits.ensures.0.1, digits_most c.args.n _ (search rules) c.decimal-digits.ensures.1.0)
+put_text-requires c = omega (arith, c.decimal-digits.ensures.in_bounds.1, digits_most c.args.n _ (search rules) c.decimal-digits.ensures.len)
 
 pub returns : goal.returns
 returns c = let a = c.args in
-    let f = c.decimal-digits.ensures.1.0 in
-    let e = c.decimal-digits.ensures.1.1 ∙ digits_are most_digits c.decimal-digits.result a.n f (digits_most a.n _ (search rules) f) in
+    let f = c.decimal-digits.ensures.len in
+    let e = c.decimal-digits.ensures.digits ∙ digits_are most_digits c.decimal-digits.result a.n f (digits_most a.n _ (search rules) f) in
     rw e at c.put_text.ensures
