@@ -13,12 +13,6 @@ use Rattle.packing.specs.Steps.{head_told}
 use Rattle.packing.proofs.Turning.{gives, gives_as, first_stored}
 use Rattle.packing.proofs.head_step.Goals as goal
 
-pub returns-in-NoHead : goal.returns-in-NoHead
-returns-in-NoHead c =
-    let told-by : (x : PackHeadRead) → c.read_head.result ≡ x → let a = c.args in head_told a.place (head_after a.version a.got.now) ≡ head_told a.place (paper_head x) = λ (x : PackHeadRead) e. ap (head_told c.args.place) (sym c.read_head.ensures ∙ ap paper_head e) in
-    let told = told-by _ c.in-NoHead.is in
-    (gives_as told c.say.ensures, ap (λ (c : Told Place). front c.written c.args.written.now) (sym told))
-
 pub returns-in-Head : goal.returns-in-Head
 returns-in-Head c =
     let told-by : (x : PackHeadRead) → c.read_head.result ≡ x → let a = c.args in head_told a.place (head_after a.version a.got.now) ≡ head_told a.place (paper_head x) = λ (x : PackHeadRead) e. ap (head_told c.args.place) (sym c.read_head.ensures ∙ ap paper_head e) in
@@ -31,3 +25,4 @@ returns-in-Head c =
           ∙ ap (λ (t : TrainHead). front (t.version ∷ []) a.written.now) c.head_for-train_head.ensures
           ∙ ap (λ (t : Told Place). front t.written a.written.now) (sym told),
     )
+

@@ -39,7 +39,7 @@ returns c =
     let more = c.requires.packet_lt_packets in
     let at : ℕ → Place = λ (n : ℕ). record { wait = wait.Packets (after a.progress); count = a.place.count; mtu = a.place.mtu; number = n } in
     let p : Place = at (next_number a.place.number) in
-    let there = ap {B = Place} at c.wrapping_add_u16.ensures in
+    let there = ap {B = Place} at c.wrapping_add_u16.ensures.value in
     let told = ap (left_told a.place a.progress) (left_some a.place.mtu a.unit.now a.progress.packet (omega (arith, lent.ready.packets_is, more))) in
     let put = record_is lent (unit-bytes) more (width) a.place.number _ _ c.put_record-end.ensures in (
       λ line. gives p there (ap (λ (o : Order). o.read) c.ask.ensures) (asked p _ _ 0 told there c.ask.ensures put.0 put.1 (omega arith)),

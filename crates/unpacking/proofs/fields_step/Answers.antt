@@ -15,30 +15,30 @@ use Rattle.unpacking.proofs.Turning.{gives, gives_as}
 use borrow.Author.Rules.{rules}
 use Rattle.unpacking.proofs.fields_step.Goals as goal
 
-pub returns-in-End : goal.returns-in-End
-returns-in-End c =
-    let by_read : {x : FieldsRead} → c.read_fields.result ≡ x → fields_told c.args.place (fields_of (counted_width c.args.place.width) c.args.got.now) ≡ fields_told c.args.place (paper_fields x) = λ e. ap (fields_told c.args.place) (sym c.read_fields.ensures ∙ ap paper_fields e) in
-    gives_as (by_read c.in-End.is) c.close.ensures
+pub returns-then-length-gt-PAYLOAD_BYTES : goal.returns-then-length-gt-PAYLOAD_BYTES
+returns-then-length-gt-PAYLOAD_BYTES c =
+    let by_read : (x : FieldsRead) → c.read_fields.result ≡ x → fields_told c.args.place (fields_of (counted_width c.args.place.width) c.args.got.now) ≡ fields_told c.args.place (paper_fields x) = λ (x : FieldsRead) e. ap (fields_told c.args.place) (sym c.read_fields.ensures ∙ ap paper_fields e) in
+    let fields_at : RecordFields = c.in-Fields.fields in
+    gives_as (by_read _ c.in-Fields.is ∙ rw (lt-ltb payload_bytes (fields_at).length c.if-length-gt-PAYLOAD_BYTES.true)) (c.read_away.ensures _)
 
 pub returns-in-Refused : goal.returns-in-Refused
 returns-in-Refused c =
-    let by_read : {x : FieldsRead} → c.read_fields.result ≡ x → fields_told c.args.place (fields_of (counted_width c.args.place.width) c.args.got.now) ≡ fields_told c.args.place (paper_fields x) = λ e. ap (fields_told c.args.place) (sym c.read_fields.ensures ∙ ap paper_fields e) in
-    gives_as (by_read c.in-Refused.is) c.stop_at.ensures
+    let by_read : (x : FieldsRead) → c.read_fields.result ≡ x → fields_told c.args.place (fields_of (counted_width c.args.place.width) c.args.got.now) ≡ fields_told c.args.place (paper_fields x) = λ (x : FieldsRead) e. ap (fields_told c.args.place) (sym c.read_fields.ensures ∙ ap paper_fields e) in
+    gives_as (by_read _ c.in-Refused.is) c.stop_at.ensures
 
-pub returns-then-length-gt-PAYLOAD_BYTES : goal.returns-then-length-gt-PAYLOAD_BYTES
-returns-then-length-gt-PAYLOAD_BYTES c =
-    let by_read : {x : FieldsRead} → c.read_fields.result ≡ x → fields_told c.args.place (fields_of (counted_width c.args.place.width) c.args.got.now) ≡ fields_told c.args.place (paper_fields x) = λ e. ap (fields_told c.args.place) (sym c.read_fields.ensures ∙ ap paper_fields e) in
-    let fields_at : RecordFields = c.in-Fields.fields in
-    gives_as (by_read c.in-Fields.is ∙ rw (lt-ltb payload_bytes (fields_at).length c.if-length-gt-PAYLOAD_BYTES.true)) (c.read_away.ensures _)
+pub returns-in-End : goal.returns-in-End
+returns-in-End c =
+    let by_read : (x : FieldsRead) → c.read_fields.result ≡ x → fields_told c.args.place (fields_of (counted_width c.args.place.width) c.args.got.now) ≡ fields_told c.args.place (paper_fields x) = λ (x : FieldsRead) e. ap (fields_told c.args.place) (sym c.read_fields.ensures ∙ ap paper_fields e) in
+    gives_as (by_read _ c.in-End.is) c.close.ensures
 
 pub returns-else-length-gt-PAYLOAD_BYTES : goal.returns-else-length-gt-PAYLOAD_BYTES
 returns-else-length-gt-PAYLOAD_BYTES c =
     let fields_at : RecordFields = c.in-Fields.fields in
-    let by_read : {x : FieldsRead} → c.read_fields.result ≡ x → fields_told c.args.place (fields_of (counted_width c.args.place.width) c.args.got.now) ≡ fields_told c.args.place (paper_fields x) = λ e. ap (fields_told c.args.place) (sym c.read_fields.ensures ∙ ap paper_fields e) in
+    let by_read : (x : FieldsRead) → c.read_fields.result ≡ x → fields_told c.args.place (fields_of (counted_width c.args.place.width) c.args.got.now) ≡ fields_told c.args.place (paper_fields x) = λ (x : FieldsRead) e. ap (fields_told c.args.place) (sym c.read_fields.ensures ∙ ap paper_fields e) in
     let f = fields_at in
     let small = c.if-length-gt-PAYLOAD_BYTES.false in
     let p = awaits c.args.place (wait.Payload f) in
     let there = c.awaiting.ensures in
     let told : fields_told c.args.place (fields_of (counted_width c.args.place.width) c.args.got.now) ≡ asks p [] f.length =
-    by_read c.in-Fields.is ∙ rw (le-ltb payload_bytes f.length small) in
+    by_read _ c.in-Fields.is ∙ rw (le-ltb payload_bytes f.length small) in
     gives p there c.requires.1 (asked p [] 0 f.length told there c.ask.ensures refl (omega arith) small)

@@ -15,28 +15,12 @@ use Rattle.unpacking.proofs.payload_step.Goals as goal
 pub overflow_add-place : goal.overflow_add-place
 overflow_add-place c = omega (arith, c.requires.2)
 
-pub returns-in-Broken : goal.returns-in-Broken
-returns-in-Broken c =
-    let came : After (Step Taken) = let a = c.args in step_of a.place.state a.fields a.got.now a.store.now a.out.now in
-    let answers : {x : RecordStep} → c.unpack_record.result ≡ x → answered (came).answer ≡ paper_step x = λ e. sym (ap (λ (x : After (Step Received)). x.answer) c.unpack_record.ensures) ∙ ap paper_step e in
-    let p = c.args.place in
-    comes (came) p c.unpack_record.ensures
-    (gives_as (ap (payload_told p) (answered_breaks (came).answer _ (answers c.in-Broken.is))) c.stop_at.ensures)
-
-pub returns-in-PassedOver : goal.returns-in-PassedOver
-returns-in-PassedOver c =
-    let came : After (Step Taken) = let a = c.args in step_of a.place.state a.fields a.got.now a.store.now a.out.now in
-    let answers : {x : RecordStep} → c.unpack_record.result ≡ x → answered (came).answer ≡ paper_step x = λ e. sym (ap (λ (x : After (Step Received)). x.answer) c.unpack_record.ensures) ∙ ap paper_step e in
-    let p = c.args.place in
-    comes (came) p c.unpack_record.ensures
-    (gives_as (ap (payload_told p) (answered_passes (came).answer _ (answers c.in-PassedOver.is))) c.pass_over.ensures)
-
 pub returns-in-Taken : goal.returns-in-Taken
 returns-in-Taken c =
     let came : After (Step Taken) = let a = c.args in step_of a.place.state a.fields a.got.now a.store.now a.out.now in
-    let answers : {x : RecordStep} → c.unpack_record.result ≡ x → answered (came).answer ≡ paper_step x = λ e. sym (ap (λ (x : After (Step Received)). x.answer) c.unpack_record.ensures) ∙ ap paper_step e in
+    let answers : (x : RecordStep) → c.unpack_record.result ≡ x → answered (came).answer ≡ paper_step x = λ (x : RecordStep) e. sym (ap (λ (x : After (Step Received)). x.answer) c.unpack_record.ensures) ∙ ap paper_step e in
     let p = c.args.place in
-    let x = answered_takes (came).answer _ (answers c.in-Taken.is) in
+    let x = answered_takes (came).answer _ (answers _ c.in-Taken.is) in
     let new = next p (state_of x.0.held) (with_taken p.losses x.0.lost) in
     let there = c.following.ensures ∙ ap (next p c.in-Taken.taken.state) c.with_taken-lost.ensures
     ∙ ap (λ (y : Received). next p y.state (with_taken p.losses (record { fragment = y.fragment_lost; element = y.element_lost }))) x.2 in
@@ -45,3 +29,19 @@ returns-in-Taken c =
     comes (came) p c.unpack_record.ensures
     (gives new there c.requires.2
     (asked new x.0.bytes _ (fields_width p.width) (ap (payload_told p) x.1) there c.ask.ensures bytes (omega (arith, bytes, within, c.requires.0)) (omega (arith, c.requires.2))))
+
+pub returns-in-PassedOver : goal.returns-in-PassedOver
+returns-in-PassedOver c =
+    let came : After (Step Taken) = let a = c.args in step_of a.place.state a.fields a.got.now a.store.now a.out.now in
+    let answers : (x : RecordStep) → c.unpack_record.result ≡ x → answered (came).answer ≡ paper_step x = λ (x : RecordStep) e. sym (ap (λ (x : After (Step Received)). x.answer) c.unpack_record.ensures) ∙ ap paper_step e in
+    let p = c.args.place in
+    comes (came) p c.unpack_record.ensures
+    (gives_as (ap (payload_told p) (answered_passes (came).answer _ (answers _ c.in-PassedOver.is))) c.pass_over.ensures)
+
+pub returns-in-Broken : goal.returns-in-Broken
+returns-in-Broken c =
+    let came : After (Step Taken) = let a = c.args in step_of a.place.state a.fields a.got.now a.store.now a.out.now in
+    let answers : (x : RecordStep) → c.unpack_record.result ≡ x → answered (came).answer ≡ paper_step x = λ (x : RecordStep) e. sym (ap (λ (x : After (Step Received)). x.answer) c.unpack_record.ensures) ∙ ap paper_step e in
+    let p = c.args.place in
+    comes (came) p c.unpack_record.ensures
+    (gives_as (ap (payload_told p) (answered_breaks (came).answer _ (answers _ c.in-Broken.is))) c.stop_at.ensures)
