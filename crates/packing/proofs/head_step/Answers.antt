@@ -26,3 +26,8 @@ returns-in-Head c =
           ∙ ap (λ (t : Told Place). front t.written a.written.now) (sym told),
     )
 
+pub returns-in-NoHead : goal.returns-in-NoHead
+returns-in-NoHead c =
+    let told-by : (x : PackHeadRead) → c.read_head.result ≡ x → let a = c.args in head_told a.place (head_after a.version a.got.now) ≡ head_told a.place (paper_head x) = λ (x : PackHeadRead) e. ap (head_told c.args.place) (sym c.read_head.ensures ∙ ap paper_head e) in
+    let told = told-by _ c.in-NoHead.is in
+    (gives_as told c.say.ensures, ap (λ (d : Told Place). front d.written c.args.written.now) (sym told))
