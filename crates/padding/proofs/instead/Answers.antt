@@ -29,7 +29,3 @@ returns-in-Packets c = let a = c.args in
     (ap (λ (w : Wait). text_for w count a.input.now) c.in-Packets.is ∙ ap (line_of count) (sym c.padded_in-padded.ensures))
     c.turned.ensures c.put_line-end.ensures.0 c.put_line-end.ensures.1 c.put_line-end.ensures.2
 
-pub returns : goal.returns
-returns c = let a = c.args in
-    let other = no_packets a.turn.place.wait c.in_default.in_default-own.keys2 in
-    writes other.0 (other.1 a.turn.place.count a.input.now) c.turned-2.ensures refl (omega arith) refl
