@@ -54,14 +54,14 @@ returns-in-Further c = let a = c.args in
     let t = c.further_step.ensures in
     stepped a.place a.came _ wait.Further a.input.now a.unit.now a.line.now _ _ c.in-Read.is c.in-Further.is t.0 refl t.1
 
-pub returns-in-Row : goal.returns-in-Row
-returns-in-Row c = let a = c.args in
-    let f = ready_at a.place a.unit.now a.obus.now a.plan.now c.in-Row.is c.requires.ready in
-    let t = c.Row-step.ensures in
-    stepped a.place a.came _ (wait.Row _) a.input.now a.unit.now a.line.now a.obus.now a.plan.now c.in-Read.is c.in-Row.is t refl
-    (ready_told a.unit.now a.obus.now a.plan.now t (ready_row a.unit.now a.obus.now a.plan.now a.place _ f))
-
 pub returns-in-Nothing : goal.returns-in-Nothing
 returns-in-Nothing c = let a = c.args in
     stepped a.place a.came _ wait.Nothing a.input.now a.unit.now a.line.now a.obus.now a.plan.now c.in-Read.is c.in-Nothing.is
     (wrote_none a.place refl refl c.over.ensures) refl c.requires.ready
+
+pub returns-in-Row : goal.returns-in-Row
+returns-in-Row c = let a = c.args in
+    let f = ready_at a.place a.unit.now a.obus.now a.plan.now c.in-Row.is c.requires.ready in
+    let t = c.row_step.ensures in
+    stepped a.place a.came _ (wait.Row _) a.input.now a.unit.now a.line.now a.obus.now a.plan.now c.in-Read.is c.in-Row.is t refl
+    (ready_told a.unit.now a.obus.now a.plan.now t (ready_row a.unit.now a.obus.now a.plan.now a.place _ f))
