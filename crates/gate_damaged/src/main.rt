@@ -7,9 +7,11 @@
 mod payloads;
 mod show;
 
-fn main() {
-    payloads::prefixes(false);
-    payloads::changes(false);
-    payloads::prefixes(true);
-    payloads::changes(true);
+use std::io;
+
+fn main(rt: HostRuntime) -> io::Result<()> {
+    payloads::prefixes(&rt, false)?;
+    payloads::changes(&rt, false)?;
+    payloads::prefixes(&rt, true)?;
+    payloads::changes(&rt, true)
 }

@@ -3,6 +3,7 @@ ghost use Rattle.std.specs.Prelude.{◌<◌};
 
 use crate::show;
 use receiver::{Receipt, State};
+use std::io;
 
 // The bytes of a payload, of the store and of the output, and how many of the store are open before.
 const PAYLOAD: usize = 9;
@@ -40,28 +41,28 @@ fn store(second: bool) -> [u8; STORE] {
     }
 }
 
-fn print_state(state: State) {
-    show::spaced(state.begun as usize);
-    show::spaced(state.last as usize);
-    show::spaced(state.open);
+fn print_state(rt: &impl Print, state: State) -> io::Result<()> {
+    show::spaced(rt, state.begun as usize)?;
+    show::spaced(rt, state.last as usize)?;
+    show::spaced(rt, state.open)
 }
 
-fn print_receipt(receipt: Receipt, out: &[u8]) {
+fn print_receipt(rt: &impl Print, receipt: Receipt, out: &[u8]) -> io::Result<()> {
     match receipt {
-        Receipt::Refused(refusal) => show::refusal(refusal),
+        Receipt::Refused(refusal) => show::refusal(rt, refusal),
         Receipt::Received(got) => {
-            show::bracketed(show::first(out, got.bytes));
-            print_state(got.state);
-            show::spaced(got.padded.lengths);
-            show::spaced(got.padded.sizes);
-            show::spaced(got.fragment_lost as usize);
-            show::spaced(got.element_lost as usize);
+            show::bracketed(rt, show::first(out, got.bytes))?;
+            print_state(rt, got.state)?;
+            show::spaced(rt, got.padded.lengths)?;
+            show::spaced(rt, got.padded.sizes)?;
+            show::spaced(rt, got.fragment_lost as usize)?;
+            show::spaced(rt, got.element_lost as usize)
         }
     }
 }
 
 // The answer to a payload, and the store after it.
-fn answer(second: bool, payload: &[u8]) {
+fn answer(rt: &impl Print, second: bool, payload: &[u8]) -> io::Result<()> {
     let mut kept = store(second);
     let mut out = [0u8; OUTPUT];
     let state = State {
@@ -70,45 +71,43 @@ fn answer(second: bool, payload: &[u8]) {
         open: OPEN,
     };
     let receipt = receiver::receive(state, NUMBER, payload, &mut kept, &mut out);
-    print_receipt(receipt, &out);
-    show::bracketed(&kept);
-    show::mark(b'\n');
+    print_receipt(rt, receipt, &out)?;
+    show::bracketed(rt, &kept)?;
+    show::mark(rt, b'\n')
 }
 
 // The first n bytes of a payload.
-fn cut(second: bool, n: usize) {
+fn cut(rt: &impl Print, second: bool, n: usize) -> io::Result<()> {
     let whole = payload(second);
-    show::number(n);
-    answer(second, show::first(&whole, n));
+    show::number(rt, n)?;
+    answer(rt, second, show::first(&whole, n))
 }
 
 // A payload with this byte at this place.
-fn changed(second: bool, at: usize, b: u8)
+fn changed(rt: &impl Print, second: bool, at: usize, b: u8) -> io::Result<()>
     requires { at < 9 }
 {
     let mut other = payload(second);
     other[at] = b;
-    show::number(at);
-    show::mark(b' ');
-    show::byte(b);
-    answer(second, &other);
+    show::number(rt, at)?;
+    show::mark(rt, b' ')?;
+    show::byte(rt, b)?;
+    answer(rt, second, &other)
 }
 
 // A line for each prefix of a payload.
-pub fn prefixes(second: bool) {
-    show::text(b"payload\n");
-    let mut n: usize = 0;
-    while n < PAYLOAD {
-        cut(second, n);
-        n += 1;
+pub fn prefixes(rt: &impl Print, second: bool) -> io::Result<()> {
+    show::text(rt, b"payload\n")?;
+    for n in 0..PAYLOAD {
+        cut(rt, second, n)?;
     }
+    Ok(())
 }
 
 // A line for each value of each byte of a payload.
-pub fn changes(second: bool) {
-    let mut n: usize = 0;
-    while n < CHANGES {
-        changed(second, n / 256, (n % 256) as u8);
-        n += 1;
+pub fn changes(rt: &impl Print, second: bool) -> io::Result<()> {
+    for n in 0..CHANGES {
+        changed(rt, second, n / 256, (n % 256) as u8)?;
     }
+    Ok(())
 }

@@ -1,44 +1,42 @@
 // What lines are made of, and parts of bytes, as many as there are.
 use base::Refusal;
-use libc::STDOUT_FILENO;
+use std::io;
 
-pub fn text(bytes: &[u8]) {
-    io::write_all(STDOUT_FILENO, bytes);
+pub fn text(rt: &impl Print, bytes: &[u8]) -> io::Result<()> {
+    rt.write_all(bytes)
 }
 
 // One character.
-pub fn mark(b: u8) {
-    text(&[b]);
+pub fn mark(rt: &impl Print, b: u8) -> io::Result<()> {
+    text(rt, &[b])
 }
 
-pub fn number(n: usize) {
-    io::print_decimal(STDOUT_FILENO, n as u64);
+pub fn number(rt: &impl Print, n: usize) -> io::Result<()> {
+    print!(rt; "{n}")
 }
 
-pub fn byte(b: u8) {
-    io::print_hex(STDOUT_FILENO, b as u64, 2);
+pub fn byte(rt: &impl Print, b: u8) -> io::Result<()> {
+    print!(rt; "{b:02x}")
 }
 
 // A number with a blank before it.
-pub fn spaced(n: usize) {
-    mark(b' ');
-    number(n);
+pub fn spaced(rt: &impl Print, n: usize) -> io::Result<()> {
+    mark(rt, b' ')?;
+    number(rt, n)
 }
 
-pub fn refusal(refused: Refusal) {
-    spaced(base::number(refused) as usize);
+pub fn refusal(rt: &impl Print, refused: Refusal) -> io::Result<()> {
+    spaced(rt, base::number(refused) as usize)
 }
 
 // Bytes in brackets.
-pub fn bracketed(bytes: &[u8]) {
-    mark(b' ');
-    mark(b'[');
-    let mut i: usize = 0;
-    while i < bytes.len() {
-        byte(bytes[i]);
-        i += 1;
+pub fn bracketed(rt: &impl Print, bytes: &[u8]) -> io::Result<()> {
+    mark(rt, b' ')?;
+    mark(rt, b'[')?;
+    for b in bytes {
+        byte(rt, *b)?;
     }
-    mark(b']');
+    mark(rt, b']')
 }
 
 // The first n bytes; all, if there are fewer.

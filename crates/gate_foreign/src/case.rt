@@ -1,41 +1,40 @@
 // A case: packets given to the receiver, and its answer, its bytes, its state and what it threw away compared with what is expected.
 use base::Refusal;
-use libc::STDOUT_FILENO;
 use receiver::{Padded, Receipt, Received, State};
+use std::io;
 
 // The number of a case's first packet, the last before numbers wrap.
 pub const FIRST: u16 = 65535;
 
-fn print(text: &[u8]) {
-    io::write_all(STDOUT_FILENO, text);
+fn print(rt: &impl Print, text: &[u8]) -> io::Result<()> {
+    rt.write_all(text)
 }
 
-fn print_number(n: usize) {
-    io::print_decimal(STDOUT_FILENO, n as u64);
+fn print_number(rt: &impl Print, n: usize) -> io::Result<()> {
+    print!(rt; "{n}")
 }
 
 // Begins the line of a case, with a fresh receiver.
-pub fn begin(n: usize) -> State {
-    print(b"case ");
-    print_number(n);
-    print(b":");
-    receiver::FRESH
+pub fn begin(rt: &impl Print, n: usize) -> io::Result<State> {
+    print(rt, b"case ")?;
+    print_number(rt, n)?;
+    print(rt, b":")?;
+    Ok(receiver::FRESH)
 }
 
-pub fn end() {
-    print(b"\n");
+pub fn end(rt: &impl Print) -> io::Result<()> {
+    print(rt, b"\n")
 }
 
-fn print_hex(b: u8) {
-    io::print_hex(STDOUT_FILENO, b as u64, 2);
+fn print_hex(rt: &impl Print, b: u8) -> io::Result<()> {
+    print!(rt; "{b:02x}")
 }
 
-fn print_bytes(bytes: &[u8]) {
-    let mut i: usize = 0;
-    while i < bytes.len() {
-        print_hex(bytes[i]);
-        i += 1;
+fn print_bytes(rt: &impl Print, bytes: &[u8]) -> io::Result<()> {
+    for b in bytes {
+        print_hex(rt, *b)?;
     }
+    Ok(())
 }
 
 // The first n bytes; all, if there are fewer.
@@ -44,34 +43,36 @@ fn first(bytes: &[u8], n: usize) -> &[u8] {
 }
 
 // What came instead: the bytes that went out, how many are open, and what was thrown away.
-fn print_taken(got: Received, out: &[u8]) {
-    print(b" out ");
-    print_bytes(first(out, got.bytes));
-    print(b" open ");
-    print_number(got.state.open);
+fn print_taken(rt: &impl Print, got: Received, out: &[u8]) -> io::Result<()> {
+    print(rt, b" out ")?;
+    print_bytes(rt, first(out, got.bytes))?;
+    print(rt, b" open ")?;
+    print_number(rt, got.state.open)?;
     if got.fragment_lost {
-        print(b" fragment lost");
+        print(rt, b" fragment lost")?;
     }
     if got.element_lost {
-        print(b" element lost");
+        print(rt, b" element lost")?;
     }
+    Ok(())
 }
 
 // How many of its length fields, and how many size fields of the OBUs that it finishes, are padded.
-fn print_padded(padded: Padded) {
+fn print_padded(rt: &impl Print, padded: Padded) -> io::Result<()> {
     if padded.lengths > 0 {
-        print(b" padded lengths ");
-        print_number(padded.lengths);
+        print(rt, b" padded lengths ")?;
+        print_number(rt, padded.lengths)?;
     }
     if padded.sizes > 0 {
-        print(b" padded sizes ");
-        print_number(padded.sizes);
+        print(rt, b" padded sizes ")?;
+        print_number(rt, padded.sizes)?;
     }
+    Ok(())
 }
 
-fn print_refused(refusal: Refusal) {
-    print(b" refused ");
-    print_number(base::number(refusal) as usize);
+fn print_refused(rt: &impl Print, refusal: Refusal) -> io::Result<()> {
+    print(rt, b" refused ")?;
+    print_number(rt, base::number(refusal) as usize)
 }
 
 // The state says that this packet was taken, and that so many bytes are open.
@@ -94,18 +95,20 @@ fn same_losses(got: Received, fragment: bool, element: bool) -> bool {
 
 // A packet that is taken and throws nothing away: these bytes go out, and so many are open after it.
 pub fn takes(
+    rt: &impl Print,
     state: State,
     number: u16,
     payload: &[u8],
     bytes: &[u8],
     open: usize,
     store: &mut [u8],
-) -> State {
-    loses(state, number, payload, false, false, bytes, open, store)
+) -> io::Result<State> {
+    loses(rt, state, number, payload, false, false, bytes, open, store)
 }
 
 // The same, and this is thrown away: an open fragment, an element.
 pub fn loses(
+    rt: &impl Print,
     state: State,
     number: u16,
     payload: &[u8],
@@ -114,75 +117,80 @@ pub fn loses(
     bytes: &[u8],
     open: usize,
     store: &mut [u8],
-) -> State {
+) -> io::Result<State> {
     let mut out = [0u8; 256];
     match receiver::receive(state, number, payload, store, &mut out) {
         Receipt::Refused(refusal) => {
-            print_refused(refusal);
-            state
+            print_refused(rt, refusal)?;
+            Ok(state)
         }
         Receipt::Received(got) => {
             let next = got.state;
             if same_state(next, number, open) {
                 if same_losses(got, fragment, element) {
                     if check::same(first(&out, got.bytes), bytes) {
-                        print(b" ok");
-                        print_padded(got.padded);
-                        return next;
+                        print(rt, b" ok")?;
+                        print_padded(rt, got.padded)?;
+                        return Ok(next);
                     }
                 }
             }
-            print_taken(got, &out);
-            next
+            print_taken(rt, got, &out)?;
+            Ok(next)
         }
     }
 }
 
 // A packet that is refused, with this number.
-pub fn refuses(state: State, number: u16, payload: &[u8], refused: u32, store: &mut [u8]) {
+pub fn refuses(
+    rt: &impl Print,
+    state: State,
+    number: u16,
+    payload: &[u8],
+    refused: u32,
+    store: &mut [u8],
+) -> io::Result<()> {
     let mut out = [0u8; 256];
     match receiver::receive(state, number, payload, store, &mut out) {
-        Receipt::Received(got) => {
-            print_taken(got, &out);
-        }
+        Receipt::Received(got) => print_taken(rt, got, &out),
         Receipt::Refused(refusal) => {
             if base::number(refusal) == refused {
-                print(b" ok");
-                return;
+                return print(rt, b" ok");
             }
-            print_refused(refusal);
+            print_refused(rt, refusal)
         }
     }
 }
 
 // A case of one packet that is taken and leaves nothing open.
-pub fn whole(n: usize, payload: &[u8], bytes: &[u8]) {
+pub fn whole(rt: &impl Print, n: usize, payload: &[u8], bytes: &[u8]) -> io::Result<()> {
     let mut store = [0u8; 16];
-    let state = begin(n);
-    takes(state, FIRST, payload, bytes, 0, &mut store);
-    end();
+    let state = begin(rt, n)?;
+    takes(rt, state, FIRST, payload, bytes, 0, &mut store)?;
+    end(rt)
 }
 
 // A case of one packet that is refused.
-pub fn broken(n: usize, payload: &[u8], refused: u32) {
+pub fn broken(rt: &impl Print, n: usize, payload: &[u8], refused: u32) -> io::Result<()> {
     let mut store = [0u8; 16];
-    let state = begin(n);
-    refuses(state, FIRST, payload, refused, &mut store);
-    end();
+    let state = begin(rt, n)?;
+    refuses(rt, state, FIRST, payload, refused, &mut store)?;
+    end(rt)
 }
 
 // Two packets, the first of which leaves so many bytes open.
 pub fn two(
+    rt: &impl Print,
     n: usize,
     first: &[u8],
     first_bytes: &[u8],
     open: usize,
     second: &[u8],
     second_bytes: &[u8],
-) {
+) -> io::Result<()> {
     let mut store = [0u8; 16];
-    let state = begin(n);
-    let next = takes(state, FIRST, first, first_bytes, open, &mut store);
-    takes(next, 0, second, second_bytes, 0, &mut store);
-    end();
+    let state = begin(rt, n)?;
+    let next = takes(rt, state, FIRST, first, first_bytes, open, &mut store)?;
+    takes(rt, next, 0, second, second_bytes, 0, &mut store)?;
+    end(rt)
 }

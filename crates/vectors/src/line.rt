@@ -83,10 +83,8 @@ fn put_byte(unit: &mut [u8], at: usize, b: u8) {
 
 // The bytes from `from` up to `to`, as far as there is space.
 fn repeat_byte(unit: &mut [u8], from: usize, to: usize, b: u8) {
-    let mut at = from;
-    while at < to {
+    for at in from..to {
         put_byte(unit, at, b);
-        at += 1;
     }
 }
 

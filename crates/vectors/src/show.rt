@@ -1,65 +1,65 @@
 // What answers are made of: records in decimal, and bytes in hexadecimal capitals.
-ghost use Rattle.std.specs.Prelude.{◌≤◌, ◌<◌};
-ghost use Rattle.io.specs.Counts.{IsPrefixLen};
+ghost use Rattle.std.specs.Prelude.{◌≤◌, ◌<◌, length};
 
 use base::Refusal;
-use libc::STDOUT_FILENO;
+use std::io;
 
-// How many bytes are printed at once.
+// How many bytes are printed at once, and how many digits they have.
 const CHUNK: usize = 2048;
 
-pub fn text(bytes: &[u8]) {
-    io::write_all(STDOUT_FILENO, bytes);
+const DIGITS: usize = 4096;
+
+pub fn text(rt: &impl Print, bytes: &[u8]) -> io::Result<()> {
+    rt.write_all(bytes)
 }
 
-pub fn count(n: usize) {
-    io::print_decimal(STDOUT_FILENO, n as u64);
+pub fn count(rt: &impl Print, n: usize) -> io::Result<()> {
+    print!(rt; "{n}")
 }
 
-fn number(n: u32) {
-    io::print_decimal(STDOUT_FILENO, n as u64);
+fn number(rt: &impl Print, n: u32) -> io::Result<()> {
+    print!(rt; "{n}")
 }
 
 // A refusal by its number.
-pub fn refusal(refused: Refusal) {
-    text(b"refused ");
-    number(base::number(refused));
+pub fn refusal(rt: &impl Print, refused: Refusal) -> io::Result<()> {
+    text(rt, b"refused ")?;
+    number(rt, base::number(refused))
 }
 
 // What stands before number k of a list of records: a blank before the first, a semicolon between records, a comma inside them.
-fn mark(k: usize, width: usize)
+fn mark(rt: &impl Print, k: usize, width: usize) -> io::Result<()>
     requires { 1 ≤ width }
 {
     if k == 0 {
-        text(b" ");
+        text(rt, b" ")
     } else {
         if k % width == 0 {
-            text(b";");
+            text(rt, b";")
         } else {
-            text(b",");
+            text(rt, b",")
         }
     }
 }
 
 // The records of a list, each of so many numbers.
 // Helper: a record must have a number.
-pub fn records(list: &[u32], width: usize)
+pub fn records(rt: &impl Print, list: &[u32], width: usize) -> io::Result<()>
     requires { 1 ≤ width }
 {
-    let mut k: usize = 0;
-    while k < list.len() {
-        mark(k, width);
-        number(list[k]);
-        k += 1;
+    for (k, n) in list.iter().enumerate() {
+        mark(rt, k, width)?;
+        number(rt, *n)?;
     }
+    Ok(())
 }
 
 // What stands before a header or a payload: a blank before the first, a comma before any other.
-pub fn between(k: usize) {
+pub fn between(rt: &impl Print, k: usize) -> io::Result<()> {
     if k == 0 {
-        text(b" ");
+        text(rt, b" ")
     } else {
-        text(b",");
+        text(rt, b",")
     }
 }
 
@@ -80,35 +80,29 @@ fn low_letter(b: u8) -> u8 {
 
 // The digits of some bytes, as far as there is space: how many there are.
 fn put_digits(bytes: &[u8], text: &mut [u8]) -> usize
-    ensures { IsPrefixLen result text.new }
+    ensures { result ≤ length text.new }
 {
     let n = base::smaller(bytes.len(), text.len() / 2);
-    let mut i: usize = 0;
-    while i < n {
+    for i in 0..n {
         text[i * 2] = high_letter(bytes[i]);
         text[i * 2 + 1] = low_letter(bytes[i]);
-        i += 1;
     }
     n * 2
 }
 
 // At most CHUNK bytes.
-fn chunk(bytes: &[u8]) {
-    let mut digits = io::buffer();
+fn chunk(rt: &impl Print, bytes: &[u8]) -> io::Result<()> {
+    let mut digits = [0u8; DIGITS];
     let n = put_digits(bytes, &mut digits);
-    text(&digits[..n]);
+    text(rt, &digits[..n])
 }
 
 // Some bytes.
-pub fn hex(bytes: &[u8]) {
-    let mut at: usize = 0;
-    let mut turns = bytes.len() / CHUNK + 1;
-    while turns > 0 {
-        let end = at + base::smaller(bytes.len() - at, CHUNK);
-        chunk(&bytes[at..end]);
-        at = end;
-        turns -= 1;
+pub fn hex(rt: &impl Print, bytes: &[u8]) -> io::Result<()> {
+    for part in bytes.chunks(CHUNK) {
+        chunk(rt, part)?;
     }
+    Ok(())
 }
 
 // The first n numbers of a list.
