@@ -1,6 +1,5 @@
 use mathlib.Core.Path.{ap, ◌∙◌}
 use Rattle.gate_headers.specs.Rows.{code_of, of_numbers}
-use borrow.Author.Rules.{rules}
 use Rattle.gate_headers.proofs.by_numbers.Goals as goal
 
 pub returns : goal.returns

@@ -1,6 +1,5 @@
 use mathlib.Core.Path.{ap, ◌∙◌}
 use Rattle.gate_headers.specs.Rows.{code_of, of_records}
-use borrow.Author.Rules.{rules}
 use Rattle.gate_headers.proofs.by_records.Goals as goal
 
 pub returns : goal.returns

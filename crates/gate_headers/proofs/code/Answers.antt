@@ -3,7 +3,6 @@ use Prim.Native.Nat.{ℕ, ◌+◌}
 use Rattle.aggregation.specs.Paper.{paper}
 use Rattle.aggregation.specs.declared.HeaderAnswer.{HeaderAnswer}
 use Rattle.gate_headers.specs.Rows.{code_of}
-use borrow.Author.Rules.{rules}
 use Rattle.gate_headers.proofs.code.Goals as goal
 
 pub returns-in-Refused : goal.returns-in-Refused

@@ -4,40 +4,7 @@ use Rattle.base.specs.Records.{records_from}
 use Rattle.aggregation.specs.New.{before_frame, from_frame, n_of}
 use Rattle.aggregation.specs.Header.{byte_of, any_outside, header_of}
 use Rattle.gate_headers.specs.Rows.{of_records, of_numbers}
-use borrow.Author.Rules.{rules}
 use Rattle.gate_headers.proofs.main.Goals as goal
-
-pub main_spec : {M : Type 1} → statement M
-main_spec =
-    tie.close
-    (tie.spec
-    slice-aggregate-row
-    row-requires
-    slice-aggregate-row-2
-    row-requires-2
-    slice-aggregate-row-3
-    row-requires-3
-    slice-aggregate-row-4
-    row-requires-4
-    slice-aggregate-row-5
-    row-requires-5
-    slice-aggregate-row-6
-    row-requires-6
-    slice-aggregate-row-7
-    row-requires-7
-    slice-aggregate-row-8
-    row-requires-8
-    slice-aggregate-row-9
-    row-requires-9
-    slice-aggregate-row-10
-    row-requires-10
-    slice-aggregate-row-11
-    row-requires-11
-    slice-aggregate-row-12
-    row-requires-12
-    slice-aggregate-row-13
-    row-requires-13
-    returns)
 
 pub row-requires : goal.row-requires
 unfolding header_of any_outside byte_of n_of before_frame from_frame keep records_from of_records of_numbers

@@ -1,6 +1,5 @@
 use mathlib.Core.Path.{◌∙◌}
 use borrow.Author.Tests.{eq-eqb}
-use borrow.Author.Rules.{rules}
 use Rattle.gate_headers.proofs.row.Goals as goal
 
 pub expect-requires : goal.expect-requires
