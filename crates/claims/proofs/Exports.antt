@@ -13,35 +13,35 @@ use Rattle.av1rtp.specs.contracts.av1rtp_train_record as trainRecord
 use Rattle.av1rtp.specs.contracts.av1rtp_train_record_head as recordHead
 use Rattle.settled.proofs.Exports as exports
 
-pub size_field_lem : Settled size_field.ended (λ M. size_field.clauses)
+pub size_field_lem : Settled size_field.ended (λ M 𝓤. size_field.clauses)
 size_field_lem = exports.size_field_lem
 
-pub list_obus : Settled list.ended (λ M. list.clauses)
+pub list_obus : Settled list.ended (λ M 𝓤. list.clauses)
 list_obus = exports.list_obus
 
-pub plan_unit_lem : Settled plan.ended (λ M. plan.clauses)
+pub plan_unit_lem : Settled plan.ended (λ M 𝓤. plan.clauses)
 plan_unit_lem = exports.plan_unit_lem
 
-pub header_of_lem : Settled header.ended (λ M. header.clauses)
+pub header_of_lem : Settled header.ended (λ M 𝓤. header.clauses)
 header_of_lem = exports.header_of_lem
 
-pub write_packet_lem : Settled write_packet.ended (λ M. write_packet.clauses)
+pub write_packet_lem : Settled write_packet.ended (λ M 𝓤. write_packet.clauses)
 write_packet_lem = exports.write_packet_lem
 
-pub write_packets_lem : Settled write_packets.ended (λ M. write_packets.clauses)
+pub write_packets_lem : Settled write_packets.ended (λ M 𝓤. write_packets.clauses)
 write_packets_lem = exports.write_packets_lem
 
-pub element_of_lem : Settled element.ended (λ M. element.clauses)
+pub element_of_lem : Settled element.ended (λ M 𝓤. element.clauses)
 element_of_lem = exports.element_of_lem
 
-pub received : Settled receive.ended (λ M. receive.clauses)
+pub received : Settled receive.ended (λ M 𝓤. receive.clauses)
 received = exports.received
 
-pub train_head : Settled trainHead.ended (λ M. trainHead.clauses)
+pub train_head : Settled trainHead.ended (λ M 𝓤. trainHead.clauses)
 train_head = exports.train_head
 
-pub train_record : Settled trainRecord.ended (λ M. trainRecord.clauses)
+pub train_record : Settled trainRecord.ended (λ M 𝓤. trainRecord.clauses)
 train_record = exports.train_record
 
-pub record_head_lem : Settled recordHead.ended (λ M. recordHead.clauses)
+pub record_head_lem : Settled recordHead.ended (λ M 𝓤. recordHead.clauses)
 record_head_lem = exports.record_head_lem

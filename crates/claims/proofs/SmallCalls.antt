@@ -19,53 +19,53 @@ use Rattle.element.specs.contracts.header_n as headerN
 use Rattle.element.specs.contracts.has_field as has_field
 use Rattle.settled.proofs.SmallCalls as small
 
-pub number_of : Settled number.ended (λ M. number.clauses)
+pub number_of : Settled number.ended (λ M 𝓤. number.clauses)
 number_of = small.number_of
 
-pub smaller_of : Settled smaller.ended (λ M. smaller.clauses)
+pub smaller_of : Settled smaller.ended (λ M 𝓤. smaller.clauses)
 smaller_of = small.smaller_of
 
-pub same_numbers_lem : Settled same_numbers.ended (λ M. same_numbers.clauses)
+pub same_numbers_lem : Settled same_numbers.ended (λ M 𝓤. same_numbers.clauses)
 same_numbers_lem = small.same_numbers_lem
 
-pub leb128_size_lem : Settled leb128Size.ended (λ M. leb128Size.clauses)
+pub leb128_size_lem : Settled leb128Size.ended (λ M 𝓤. leb128Size.clauses)
 leb128_size_lem = small.leb128_size_lem
 
-pub is_padded_lem : Settled is_padded.ended (λ M. is_padded.clauses)
+pub is_padded_lem : Settled is_padded.ended (λ M 𝓤. is_padded.clauses)
 is_padded_lem = small.is_padded_lem
 
-pub obu_type_lem : Settled obuType.ended (λ M. obuType.clauses)
+pub obu_type_lem : Settled obuType.ended (λ M 𝓤. obuType.clauses)
 obu_type_lem = small.obu_type_lem
 
-pub obu_has_extension_lem : Settled obuHasExtension.ended (λ M. obuHasExtension.clauses)
+pub obu_has_extension_lem : Settled obuHasExtension.ended (λ M 𝓤. obuHasExtension.clauses)
 obu_has_extension_lem = small.obu_has_extension_lem
 
-pub obu_has_size_lem : Settled obuHasSize.ended (λ M. obuHasSize.clauses)
+pub obu_has_size_lem : Settled obuHasSize.ended (λ M 𝓤. obuHasSize.clauses)
 obu_has_size_lem = small.obu_has_size_lem
 
-pub without_size_bit_lem : Settled without_size_bit.ended (λ M. without_size_bit.clauses)
+pub without_size_bit_lem : Settled without_size_bit.ended (λ M 𝓤. without_size_bit.clauses)
 without_size_bit_lem = small.without_size_bit_lem
 
-pub with_size_bit_lem : Settled withSizeBit.ended (λ M. withSizeBit.clauses)
+pub with_size_bit_lem : Settled withSizeBit.ended (λ M 𝓤. withSizeBit.clauses)
 with_size_bit_lem = small.with_size_bit_lem
 
-pub header_length_lem : Settled header_length.ended (λ M. header_length.clauses)
+pub header_length_lem : Settled header_length.ended (λ M 𝓤. header_length.clauses)
 header_length_lem = small.header_length_lem
 
-pub should_ignore_obu_type_lem : Settled shouldIgnoreObuType.ended (λ M. shouldIgnoreObuType.clauses)
+pub should_ignore_obu_type_lem : Settled shouldIgnoreObuType.ended (λ M 𝓤. shouldIgnoreObuType.clauses)
 should_ignore_obu_type_lem = small.should_ignore_obu_type_lem
 
-pub header_z_lem : Settled headerZ.ended (λ M. headerZ.clauses)
+pub header_z_lem : Settled headerZ.ended (λ M 𝓤. headerZ.clauses)
 header_z_lem = small.header_z_lem
 
-pub header_y_lem : Settled headerY.ended (λ M. headerY.clauses)
+pub header_y_lem : Settled headerY.ended (λ M 𝓤. headerY.clauses)
 header_y_lem = small.header_y_lem
 
-pub header_w_lem : Settled headerW.ended (λ M. headerW.clauses)
+pub header_w_lem : Settled headerW.ended (λ M 𝓤. headerW.clauses)
 header_w_lem = small.header_w_lem
 
-pub header_n_lem : Settled headerN.ended (λ M. headerN.clauses)
+pub header_n_lem : Settled headerN.ended (λ M 𝓤. headerN.clauses)
 header_n_lem = small.header_n_lem
 
-pub has_field_lem : Settled has_field.ended (λ M. has_field.clauses)
+pub has_field_lem : Settled has_field.ended (λ M 𝓤. has_field.clauses)
 has_field_lem = small.has_field_lem

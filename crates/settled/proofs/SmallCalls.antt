@@ -22,57 +22,57 @@ use Rattle.settled.proofs.Law.{meet, settles}
 
 -- ---- the number of a refusal, the smaller of two numbers, numbers of a list compared, the bytes of a size field
 
-pub number_of : Settled number.ended (λ M. number.clauses)
+pub number_of : Settled number.ended (λ M 𝓤. number.clauses)
 number_of = settles number.ended _ _ _ (λ M 𝓤 𝓛 mem run κs a. refl) (λ κs a x y p q. (meet p q, refl))
 
-pub smaller_of : Settled smaller.ended (λ M. smaller.clauses)
+pub smaller_of : Settled smaller.ended (λ M 𝓤. smaller.clauses)
 smaller_of = settles smaller.ended _ _ _ (λ M 𝓤 𝓛 mem run κs a. refl) (λ κs a x y p q. (meet p q, refl))
 
-pub same_numbers_lem : Settled same_numbers.ended (λ M. same_numbers.clauses)
+pub same_numbers_lem : Settled same_numbers.ended (λ M 𝓤. same_numbers.clauses)
 same_numbers_lem = settles same_numbers.ended _ _ _ (λ M 𝓤 𝓛 mem run κs a. refl) (λ κs a x y p q. (meet p q, refl))
 
-pub leb128_size_lem : Settled leb128Size.ended (λ M. leb128Size.clauses)
+pub leb128_size_lem : Settled leb128Size.ended (λ M 𝓤. leb128Size.clauses)
 leb128_size_lem = settles leb128Size.ended _ _ _ (λ M 𝓤 𝓛 mem run κs a. refl) (λ κs a x y p q. (meet p q, refl))
 
-pub is_padded_lem : Settled is_padded.ended (λ M. is_padded.clauses)
+pub is_padded_lem : Settled is_padded.ended (λ M 𝓤. is_padded.clauses)
 is_padded_lem = settles is_padded.ended _ _ _ (λ M 𝓤 𝓛 mem run κs a. refl) (λ κs a x y p q. (meet p q, refl))
 
 -- ---- the header byte of an OBU
 
-pub obu_type_lem : Settled obuType.ended (λ M. obuType.clauses)
+pub obu_type_lem : Settled obuType.ended (λ M 𝓤. obuType.clauses)
 obu_type_lem = settles obuType.ended _ _ _ (λ M 𝓤 𝓛 mem run κs a. refl) (λ κs a x y p q. (meet p q, refl))
 
-pub obu_has_extension_lem : Settled obuHasExtension.ended (λ M. obuHasExtension.clauses)
+pub obu_has_extension_lem : Settled obuHasExtension.ended (λ M 𝓤. obuHasExtension.clauses)
 obu_has_extension_lem = settles obuHasExtension.ended _ _ _ (λ M 𝓤 𝓛 mem run κs a. refl) (λ κs a x y p q. (meet p q, refl))
 
-pub obu_has_size_lem : Settled obuHasSize.ended (λ M. obuHasSize.clauses)
+pub obu_has_size_lem : Settled obuHasSize.ended (λ M 𝓤. obuHasSize.clauses)
 obu_has_size_lem = settles obuHasSize.ended _ _ _ (λ M 𝓤 𝓛 mem run κs a. refl) (λ κs a x y p q. (meet p q, refl))
 
-pub without_size_bit_lem : Settled without_size_bit.ended (λ M. without_size_bit.clauses)
+pub without_size_bit_lem : Settled without_size_bit.ended (λ M 𝓤. without_size_bit.clauses)
 without_size_bit_lem = settles without_size_bit.ended _ _ _ (λ M 𝓤 𝓛 mem run κs a. refl) (λ κs a x y p q. (meet p q, refl))
 
-pub with_size_bit_lem : Settled withSizeBit.ended (λ M. withSizeBit.clauses)
+pub with_size_bit_lem : Settled withSizeBit.ended (λ M 𝓤. withSizeBit.clauses)
 with_size_bit_lem = settles withSizeBit.ended _ _ _ (λ M 𝓤 𝓛 mem run κs a. refl) (λ κs a x y p q. (meet p q, refl))
 
-pub header_length_lem : Settled header_length.ended (λ M. header_length.clauses)
+pub header_length_lem : Settled header_length.ended (λ M 𝓤. header_length.clauses)
 header_length_lem = settles header_length.ended _ _ _ (λ M 𝓤 𝓛 mem run κs a. refl) (λ κs a x y p q. (meet p q, refl))
 
-pub should_ignore_obu_type_lem : Settled shouldIgnoreObuType.ended (λ M. shouldIgnoreObuType.clauses)
+pub should_ignore_obu_type_lem : Settled shouldIgnoreObuType.ended (λ M 𝓤. shouldIgnoreObuType.clauses)
 should_ignore_obu_type_lem = settles shouldIgnoreObuType.ended _ _ _ (λ M 𝓤 𝓛 mem run κs a. refl) (λ κs a x y p q. (meet p q, refl))
 
 -- ---- the header byte of a payload
 
-pub header_z_lem : Settled headerZ.ended (λ M. headerZ.clauses)
+pub header_z_lem : Settled headerZ.ended (λ M 𝓤. headerZ.clauses)
 header_z_lem = settles headerZ.ended _ _ _ (λ M 𝓤 𝓛 mem run κs a. refl) (λ κs a x y p q. (meet p q, refl))
 
-pub header_y_lem : Settled headerY.ended (λ M. headerY.clauses)
+pub header_y_lem : Settled headerY.ended (λ M 𝓤. headerY.clauses)
 header_y_lem = settles headerY.ended _ _ _ (λ M 𝓤 𝓛 mem run κs a. refl) (λ κs a x y p q. (meet p q, refl))
 
-pub header_w_lem : Settled headerW.ended (λ M. headerW.clauses)
+pub header_w_lem : Settled headerW.ended (λ M 𝓤. headerW.clauses)
 header_w_lem = settles headerW.ended _ _ _ (λ M 𝓤 𝓛 mem run κs a. refl) (λ κs a x y p q. (meet p q, refl))
 
-pub header_n_lem : Settled headerN.ended (λ M. headerN.clauses)
+pub header_n_lem : Settled headerN.ended (λ M 𝓤. headerN.clauses)
 header_n_lem = settles headerN.ended _ _ _ (λ M 𝓤 𝓛 mem run κs a. refl) (λ κs a x y p q. (meet p q, refl))
 
-pub has_field_lem : Settled has_field.ended (λ M. has_field.clauses)
+pub has_field_lem : Settled has_field.ended (λ M 𝓤. has_field.clauses)
 has_field_lem = settles has_field.ended _ _ _ (λ M 𝓤 𝓛 mem run κs a. refl) (λ κs a x y p q. (meet p q, refl))
