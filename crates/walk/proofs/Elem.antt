@@ -7,36 +7,28 @@
 --     free_all     the locals, each empty or with a value, are freed in their order
 -- Assumes `Logic`, and that the table of calls is monotone under a frame.
 use mathlib.Core.Path.{◌≡◌, refl}
-use Prim.Native.Nat.{ℕ, zero, suc, ◌+◌, ◌*◌, ◌<◌}
+use Prim.Native.Nat.{ℕ, zero, suc, ◌+◌, ◌*◌}
 use mathlib.Core.Option as option
 use mathlib.Core.Bool.{Bool, not}
 use mathlib.Core.List.{List, [], ◌∷◌, ◌++◌}
 use lib.Dec.{T}
-use lib.ListN.{length, get_or}
 use seplogic.Ra.Ura.{Ura}
 use base.Fraction.{full_share}
-use mir.Syntax.{Lifetime, Local, local, Callee, Opd as Operand, Ty, field, copy, Rv as RValue, Place, place, Body, skip, seq, assign, cond, exit, call}
+use mir.Syntax.{Local, local, Callee, Opd as Operand, Ty, field, copy, Rv as RValue, Place, place, Body, skip, seq, assign, cond, exit, call}
 use mir.Val.{Val, vbool}
 use base.Logic.{SProp, ent, emp}
-use base.Fml.{Lft, Share, Fml, ftrue, fat, fsep, flft, fobor, froom, fdies}
+use base.Fml.{Share, ftrue, fat, froom, fdies}
 use prog.Memory.{field_of}
 use prog.Wp.{Env, exits, spot_of, Calls, Loops, Wp}
 use types.Logic.{Logic}
 use contract.Monad.{fact}
 use sound.WpLaws.{FmC}
-use types.Kit.{Goal, Post, Soaks, Item, Seq, Step, Sq, runs, lands, frees, mean, nth, prop, at_ret, post, ‵, raw, some, later, ◌⊛◌, ◌$◌, !, step, move, drop, split, pick, await, use0, use1, fsplit, fjoin}
+use types.Kit.{Goal, Post, Item, Seq, Step, Sq, runs, lands, frees, mean, nth, prop, at_ret, post, ‵, raw, some, later, ◌⊛◌, ◌$◌, !, move, drop, split, pick, await, use0, use1}
 use types.Part.{Part, look_in}
 use types.Run.{Opd, Opds, Rv, Writes, look, stop, fld, from, load, forget, assigns, first, branches, skips, jumps, exec, free1, free0}
-use types.Share.{arr_parts}
 use denote.RattleType.{RattleType}
 use denote.Laws.{Is, shows}
-use denote.Memory.{cell_at, mem, shares}
-use denote.Ref.{Bor}
-use denote.Slice.{ShrSlice, shr_slice_vals, shr_slice_copy}
-use denote.Index.{place as place_at, others, elem_out, elem_back, looks_slice, shuts_slice}
 use denote.Steps.{facts, heard}
-use denote.Struct.Declared.{Declared, row}
-use denote.Struct.Laws as LL
 use denote.Triple.Statement.{Contract, Triple}
 use denote.Triple.Call.{calls_at}
 

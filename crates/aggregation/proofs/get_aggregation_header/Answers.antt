@@ -10,7 +10,6 @@ use Rattle.packetizer.specs.Records.{packets_in}
 use Rattle.packetizer.specs.declared.PacketMetadata.{PacketMetadata}
 use Rattle.packetizer.proofs.Records.{packets_count}
 use Rattle.aggregation.proofs.Calls.{none_there, lacks, answers}
-use borrow.Author.Rules.{rules}
 use Rattle.aggregation.proofs.get_aggregation_header.Goals as goal
 
 pub returns-then-plan-k : goal.returns-then-plan-k

@@ -3,7 +3,6 @@ use Prim.Native.Nat.{ℕ}
 use mathlib.Core.Bool.{Bool, cond}
 use Rattle.aggregation.specs.New.{n_of}
 use Rattle.aggregation.proofs.Laws.{or_byte}
-use borrow.Author.Rules.{rules}
 use Rattle.aggregation.proofs.header_bits.Goals as goal
 
 pub returns : goal.returns

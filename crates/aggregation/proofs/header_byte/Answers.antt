@@ -11,7 +11,6 @@ use Rattle.packetizer.specs.declared.PacketMetadata.{PacketMetadata}
 use Rattle.packetizer.proofs.Records.{packets_count}
 use Rattle.aggregation.specs.Header.{lacking, byte_of}
 use Rattle.aggregation.proofs.Calls.{Whole, given_whole, whole_there}
-use borrow.Author.Rules.{rules}
 use Rattle.aggregation.proofs.header_byte.Goals as goal
 
 pub packet_at-p-requires : goal.packet_at-p-requires

@@ -1,4 +1,4 @@
-use Rattle.std.proofs.Common.{◌+◌, ◌<◌, ◌≤◌, length, drop, refl, sym, ap, ◌∙◌, arith}
+use Rattle.std.proofs.Common.{◌+◌, drop, refl, sym, ap, ◌∙◌, arith}
 use Rattle.aggregation.specs.Inside.{seen_after}
 use Rattle.aggregation.specs.declared.Seen.{Seen}
 use Rattle.aggregation.proofs.Calls.{none_there, lacks, answers}
@@ -16,7 +16,7 @@ pub loop-j-preserved : goal.loop-j-preserved
 loop-j-preserved c = (
   omega arith,
   ap (λ (v : Seen). seen_after c.args.unit.now v (drop (c.loop-j.j + 1) c.args.obus.now)) c.see-seen.ensures
-  ∙ sym (seen_step c.args.unit.now c.args.obus.now c.loop-j.j c.loop-j-test.true c.loop-j.seen) ∙ c.loop-j.invariant.1,
+      ∙ sym (seen_step c.args.unit.now c.args.obus.now c.loop-j.j c.loop-j-test.true c.loop-j.seen) ∙ c.loop-j.invariant.1,
 )
 
 pub returns : goal.returns

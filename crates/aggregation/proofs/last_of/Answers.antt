@@ -2,7 +2,6 @@ use Prim.Native.Nat.{◌≤◌, ◌<◌}
 use native.Mathlib.Omega.{arith}
 use Rattle.packetizer.specs.Plan.{start_after, start_limit}
 use Rattle.packetizer.specs.declared.PacketMetadata.{PacketMetadata}
-use borrow.Author.Rules.{rules}
 use borrow.Author.Tests.{le-ltb, lt-ltb, eq-eqb, ne_eqb}
 use Rattle.aggregation.proofs.last_of.Goals as goal
 

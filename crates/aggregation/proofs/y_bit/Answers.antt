@@ -1,13 +1,12 @@
 use mathlib.Core.Path.{◌≡◌}
 use native.Mathlib.Omega.{arith}
-use borrow.Author.Rules.{rules}
 use borrow.Author.Tests.{le-ltb, lt-ltb, eq-eqb, ne_eqb}
 use Rattle.aggregation.specs.Header.{last_start}
 use Rattle.aggregation.proofs.y_bit.Goals as goal
 use Rattle.aggregation.proofs.y_bit.Goals.{then-p-eq1, else-p-eq1}
 
 pub overflow_add-start : goal.overflow_add-start
-overflow_add-start c = elim c.if-p-eq1.branch [ | then-p-eq1 w ↦ omega (arith, w.start-is) | else-p-eq1 w ↦ omega (arith, w.start-is) ]
+overflow_add-start c = elim c.if-p-eq1.branch [ then-p-eq1 w ↦ omega (arith, w.start-is) | else-p-eq1 w ↦ omega (arith, w.start-is) ]
 
 pub returns-then-start-p : goal.returns-then-start-p
 returns-then-start-p c =

@@ -5,7 +5,6 @@ use native.Mathlib.Omega.{arith}
 use lib.ListN.{length, take, drop, length-drop}
 use lib.Seq.{sets, length-take-le}
 use Rattle.base.proofs.Lists.{stored_read}
-use borrow.Author.Rules.{rules}
 use Rattle.base.proofs.copy_block.Goals as goal
 
 pub returns : goal.returns

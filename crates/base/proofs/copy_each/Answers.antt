@@ -1,10 +1,8 @@
 use mathlib.Core.Path.{◌≡◌, ap, ◌∙◌}
-use Prim.Native.Nat.{ℕ, ◌+◌, ◌-◌, ◌≤◌}
+use Prim.Native.Nat.{ℕ, ◌+◌}
 use mathlib.Core.List.{List}
 use native.Mathlib.Omega.{arith}
-use borrow.Author.Rules.{rules}
-use lib.ListN.{length, set, get_or, take, drop, length-set}
-use lib.Seq.{sets}
+use lib.ListN.{set, get_or, length-set}
 use Rattle.base.proofs.Lists.{copy_more}
 use Rattle.base.proofs.copy_each.Goals as goal
 

@@ -1,5 +1,4 @@
 use mathlib.Core.Path.{sym, ap}
-use borrow.Author.Rules.{rules}
 use Rattle.base.specs.Refusals.{number_of}
 use Rattle.base.proofs.number.Goals as goal
 

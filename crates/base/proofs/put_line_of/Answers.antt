@@ -1,9 +1,5 @@
-use Prim.Native.Nat.{◌-◌}
 use native.Mathlib.Omega.{arith}
-use borrow.Author.Rules.{rules}
-use mathlib.Core.Logic.{⊎_elim}
-use lib.ListN.{length}
-use Rattle.base.proofs.Words.{Looking, looking_first, stored, line_passed, byte_stored, byte_passed}
+use Rattle.base.proofs.Words.{looking_first, stored, line_passed, byte_stored, byte_passed}
 use Rattle.base.proofs.put_line_of.Goals as goal
 use Rattle.base.proofs.put_line_of.Goals.{then-b-eq10, else-b-eq10+then-line-n, else-b-eq10+else-line-n}
 
@@ -19,7 +15,7 @@ loop-i-preserved c =
     let s = c.loop-i.invariant in
     let more = c.loop-i-test.true in
     elim c.if-b-eq10.branch [
-    | then-b-eq10 w ↦ rw (w.out-is, w.line-is, w.to-is) (line_passed s more w.if-b-eq10.true)
-    | else-b-eq10+then-line-n w ↦ rw (w.out-is, w.line-is, w.to-is) (byte_stored s more w.if-b-eq10.false w.if-line-n.true)
-    | else-b-eq10+else-line-n w ↦ rw (w.out-is, w.line-is, w.to-is) (byte_passed s more w.if-b-eq10.false w.if-line-n.false)
+      | then-b-eq10 w ↦ rw (w.out-is, w.line-is, w.to-is) (line_passed s more w.if-b-eq10.true)
+      | else-b-eq10+then-line-n w ↦ rw (w.out-is, w.line-is, w.to-is) (byte_stored s more w.if-b-eq10.false w.if-line-n.true)
+      | else-b-eq10+else-line-n w ↦ rw (w.out-is, w.line-is, w.to-is) (byte_passed s more w.if-b-eq10.false w.if-line-n.false)
     ]

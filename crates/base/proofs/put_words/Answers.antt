@@ -1,4 +1,3 @@
-use borrow.Author.Rules.{rules}
 use Rattle.base.specs.Words.{words}
 use Rattle.base.specs.Inside.{lines}
 use Rattle.base.proofs.Words.{words_put}

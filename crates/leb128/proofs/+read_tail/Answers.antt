@@ -1,8 +1,7 @@
-use Rattle.std.proofs.Common.{ℕ, ◌+◌, ◌*◌, ◌<◌, ◌≤◌, sym, ap, ◌∙◌, arith, get_or}
+use Rattle.std.proofs.Common.{ℕ, ◌+◌, ◌*◌, sym, ap, ◌∙◌, arith, get_or}
 use lib.Bits.{and_le_r}
 use Rattle.base.specs.Refusals.{number_of}
 use Rattle.leb128.specs.Field.{sized, unreadable, field_in}
-use Rattle.leb128.specs.Paper.{paper_tail}
 use Rattle.leb128.proofs.Reading.{field_none, field_last, field_after, rest_small}
 use Rattle.leb128.proofs.Writing.{low7}
 use Rattle.leb128.proofs.+read_tail.Goals as goal

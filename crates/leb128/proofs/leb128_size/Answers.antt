@@ -1,5 +1,5 @@
 use native.Mathlib.Omega.{arith}
-use Rattle.leb128.proofs.Writing.{Counting, counting_first, counting_next, counting_last}
+use Rattle.leb128.proofs.Writing.{counting_first, counting_next, counting_last}
 use Rattle.leb128.proofs.leb128_size.Goals as goal
 
 pub loop-rest-init : goal.loop-rest-init

@@ -1,5 +1,4 @@
-use native.Mathlib.Omega.{arith}
-use Rattle.leb128.proofs.Writing.{Counting, counting_first, counting_next, counting_last}
+use Rattle.leb128.proofs.Writing.{Counting}
 use Rattle.leb128.proofs.leb128_size.Given as goal
 
 abbrev pub invariant-loop-rest : goal.invariant-loop-rest

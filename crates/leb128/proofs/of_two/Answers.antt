@@ -3,7 +3,6 @@ use Prim.Native.Nat.{ℕ, ◌+◌, ◌*◌}
 use native.Mathlib.Omega.{arith}
 use lib.Bits.{and_le_r}
 use lib.Dec.{ltb}
-use borrow.Author.Rules.{rules}
 use Rattle.leb128.proofs.Writing.{low7}
 use Rattle.leb128.proofs.of_two.Goals as goal
 

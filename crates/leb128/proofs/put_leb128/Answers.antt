@@ -1,6 +1,6 @@
 use native.Mathlib.Omega.{arith}
 use lib.ListN.{length-set}
-use Rattle.leb128.proofs.Writing.{Writing, writing_first, writing_room, writing_next, writing_last, byte7}
+use Rattle.leb128.proofs.Writing.{writing_first, writing_room, writing_next, writing_last, byte7}
 use Rattle.leb128.proofs.put_leb128.Goals as goal
 
 pub loop-rest-init : goal.loop-rest-init

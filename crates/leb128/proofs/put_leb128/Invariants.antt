@@ -1,6 +1,4 @@
-use native.Mathlib.Omega.{arith}
-use lib.ListN.{length-set}
-use Rattle.leb128.proofs.Writing.{Writing, writing_first, writing_room, writing_next, writing_last, byte7}
+use Rattle.leb128.proofs.Writing.{Writing}
 use Rattle.leb128.proofs.put_leb128.Given as goal
 
 abbrev pub invariant-loop-rest : goal.invariant-loop-rest

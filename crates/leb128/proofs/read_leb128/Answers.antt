@@ -10,7 +10,6 @@ use Rattle.leb128.specs.Paper.{paper_tail}
 use Rattle.leb128.proofs.Reading.{field_last, field_two, capped_small, capped_large}
 use Rattle.leb128.proofs.Writing.{encode_pos}
 use Rattle.leb128.proofs.Padded.{two_shortest}
-use borrow.Author.Rules.{rules}
 use Rattle.leb128.proofs.read_leb128.Goals as goal
 
 -- the answer for a field that was read

@@ -2,7 +2,6 @@ use mathlib.Core.Path.{sym, ◌∙◌}
 use native.Mathlib.Omega.{arith}
 use borrow.Author.Tests.{eqb-true}
 use Rattle.obu.specs.Header.{extension_bit}
-use borrow.Author.Rules.{rules}
 use Rattle.obu.proofs.extension_byte.Goals as goal
 
 pub bounds-bytes-1 : goal.bounds-bytes-1

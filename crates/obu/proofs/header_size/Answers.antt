@@ -2,7 +2,6 @@ use mathlib.Core.Path.{sym, ◌∙◌}
 use native.Mathlib.Omega.{arith}
 use borrow.Author.Tests.{eqb-true, eqb-false}
 use Rattle.obu.specs.Header.{extension_bit}
-use borrow.Author.Rules.{rules}
 use Rattle.obu.proofs.header_size.Goals as goal
 
 pub returns-then-obu_has_extension : goal.returns-then-obu_has_extension

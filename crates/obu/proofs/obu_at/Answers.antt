@@ -1,6 +1,5 @@
 use native.Mathlib.Omega.{arith}
 use Rattle.obu.proofs.Records.{obu_in}
-use borrow.Author.Rules.{rules}
 use Rattle.obu.proofs.obu_at.Goals as goal
 
 pub returns : goal.returns

@@ -8,7 +8,6 @@ use Rattle.obu.specs.Paper.{paper_list}
 use Rattle.obu.specs.Records.{flat, obu_numbers}
 use Rattle.obu.specs.declared.Listed.{Listed}
 use Rattle.obu.proofs.Scans.{listed_large, given_listed}
-use borrow.Author.Rules.{rules}
 use Rattle.obu.proofs.parse_obus.Goals as goal
 
 pub returns-then-unit-gt-UNIT_LIMIT : goal.returns-then-unit-gt-UNIT_LIMIT

@@ -2,7 +2,6 @@ use mathlib.Core.Path.{◌≡◌, sym, ◌∙◌}
 use native.Mathlib.Omega.{arith}
 use lib.ListN.{length-set}
 use borrow.Author.Tests.{eqb-true, eqb-false}
-use borrow.Author.Rules.{rules}
 use Rattle.obu.specs.Header.{extension_bit}
 use Rattle.obu.proofs.Wires.{header_one, header_two}
 use Rattle.obu.proofs.put_header.Goals as goal

@@ -13,7 +13,6 @@ use Rattle.leb128.proofs.Padded.{read_says, unread_says}
 use Rattle.obu.specs.Header.{extension_bit}
 use Rattle.obu.specs.Front.{head_bytes, headed, front_of}
 use Rattle.obu.proofs.Fronts.{same_first, same_field, front_3, front_headed, front_4, front_rest, front_in, front_past, front_bad}
-use borrow.Author.Rules.{rules}
 use Rattle.obu.proofs.read_obu.Goals as goal
 
 pub returns-then-total-after : goal.returns-then-total-after

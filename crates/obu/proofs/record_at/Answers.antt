@@ -3,7 +3,6 @@ use Prim.Native.Nat.{◌+◌}
 use native.Mathlib.Omega.{arith}
 use Rattle.obu.specs.Header.{header_length}
 use Rattle.obu.specs.declared.Obu.{Obu}
-use borrow.Author.Rules.{rules}
 use Rattle.obu.proofs.record_at.Goals as goal
 
 pub returns : goal.returns

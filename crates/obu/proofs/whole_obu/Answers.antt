@@ -8,7 +8,6 @@ use Rattle.obu.specs.Paper.{paper_head, paper_read}
 use Rattle.obu.specs.Laws.{Spans}
 use Rattle.obu.proofs.Fronts.{some_all, front_spans}
 use Rattle.obu.proofs.Wires.{whole_found, whole_short, whole_stopped}
-use borrow.Author.Rules.{rules}
 use Rattle.obu.proofs.whole_obu.Goals as goal
 
 pub span-requires : goal.span-requires

@@ -5,7 +5,6 @@ use Rattle.packetizer.specs.Plan.{charge_of, closing_then, cut_at, spread, start
 use Rattle.packetizer.specs.declared.PacketMetadata.{PacketMetadata}
 use Rattle.packetizer.proofs.Starts.{spread_lined}
 use Rattle.packetizer.proofs.Placing.{insert_whole, insert_cut, fragment_below, filling_stored, closing_room, closing_near, closing_asks, closing_stored}
-use borrow.Author.Rules.{rules}
 use Rattle.packetizer.proofs.insert_obu.Goals as goal
 
 pub overflow_sub-room : goal.overflow_sub-room

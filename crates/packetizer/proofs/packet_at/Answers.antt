@@ -1,6 +1,5 @@
 use native.Mathlib.Omega.{arith}
 use Rattle.packetizer.proofs.Records.{packet_in_lem}
-use borrow.Author.Rules.{rules}
 use Rattle.packetizer.proofs.packet_at.Goals as goal
 
 pub returns : goal.returns

@@ -1,7 +1,6 @@
 use mathlib.Core.Path.{◌≡◌, refl, sym, ap, ◌∙◌}
 use Prim.Native.Nat.{ℕ, ◌-◌, ◌*◌, ◌≤◌, ◌<◌}
 use native.Mathlib.Omega.{arith}
-use borrow.Author.Rules.{rules}
 use mathlib.Core.Bool.{true}
 use mathlib.Core.List.{List, []}
 use lib.ListN.{length, get_or}
@@ -17,7 +16,7 @@ use Rattle.packetizer.specs.declared.PacketMetadata.{PacketMetadata}
 use Rattle.packetizer.proofs.Stores.{recorded_none}
 use Rattle.packetizer.proofs.Planning.{plan_none, plan_low, plan_some}
 use Rattle.packetizer.proofs.Totals.{total_each, total_count, plan_short, plan_bytes}
-use Rattle.packetizer.proofs.Turns.{sizes_count, size_at, current_held, whole_plan, Placing, placing_first, placing_asks, placing_next, placing_count, placing_end}
+use Rattle.packetizer.proofs.Turns.{sizes_count, size_at, current_held, whole_plan, placing_first, placing_asks, placing_next, placing_count, placing_end}
 use Rattle.packetizer.proofs.packetize.Goals as goal
 
 pub returns-then-count-eq0 : goal.returns-then-count-eq0

@@ -5,7 +5,6 @@ use Rattle.packetizer.specs.declared.PacketMetadata.{PacketMetadata}
 use Rattle.packetizer.proofs.Steps.{charge_none}
 use Rattle.packetizer.proofs.Starts.{insert_lined}
 use Rattle.packetizer.proofs.Placing.{place_new, place_on, one_more, closing_room, closing_near, closing_asks, closing_stored}
-use borrow.Author.Rules.{rules}
 use Rattle.packetizer.proofs.place_obu.Goals as goal
 
 pub put_record-requires : goal.put_record-requires

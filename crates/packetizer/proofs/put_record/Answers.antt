@@ -1,6 +1,5 @@
 use native.Mathlib.Omega.{arith}
 use mathlib.Core.List.{flat_map}
-use borrow.Author.Rules.{rules}
 use Rattle.packetizer.proofs.put_record.Goals as goal
 
 pub overflow_mul-n : goal.overflow_mul-n

@@ -9,7 +9,6 @@ use Rattle.obu.specs.Paper.{paper_same}
 use Rattle.packetizer.specs.Plan.{plan_of}
 use Rattle.packetizer.specs.Call.{same_packets}
 use Rattle.packetizer.proofs.Same.{SameObus, same_obus, same_sizes, same_count, same_comparable, same_1, same_answered}
-use borrow.Author.Rules.{rules}
 use Rattle.packetizer.proofs.same_plan.Goals as goal
 
 pub returns-then-mtu-gt-MTU_LIMIT : goal.returns-then-mtu-gt-MTU_LIMIT

@@ -1,7 +1,5 @@
-use Prim.Native.Nat.{◌-◌}
 use native.Mathlib.Omega.{arith}
-use borrow.Author.Rules.{rules}
-use Rattle.packetizer.proofs.Spreading.{Spreading, spreading_first, spreading_few, spreading_room, spreading_near, spreading_next, spreading_end}
+use Rattle.packetizer.proofs.Spreading.{spreading_first, spreading_few, spreading_room, spreading_near, spreading_next, spreading_end}
 use Rattle.packetizer.proofs.spread_obu.Goals as goal
 
 pub loop-offset-init : goal.loop-offset-init
@@ -35,6 +33,6 @@ pub returns : goal.returns
 returns c = spreading_end c.loop-offset.invariant c.loop-offset-test.false c.alone_in_packet.ensures
 
 pub loop-offset-preserved : goal.loop-offset-preserved
-loop-offset-preserved c = 
+loop-offset-preserved c =
     rw c.start_after-next.ensures
     (spreading_next c.loop-offset.invariant c.requires.le_room.0 c.loop-offset-test.true c.put_record.auto.plan c.alone_in_packet-p.ensures c.put_record.ensures)

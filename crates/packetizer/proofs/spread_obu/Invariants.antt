@@ -1,7 +1,5 @@
 use Prim.Native.Nat.{◌-◌}
-use native.Mathlib.Omega.{arith}
-use borrow.Author.Rules.{rules}
-use Rattle.packetizer.proofs.Spreading.{Spreading, spreading_first, spreading_few, spreading_room, spreading_near, spreading_next, spreading_end}
+use Rattle.packetizer.proofs.Spreading.{Spreading}
 use Rattle.packetizer.proofs.spread_obu.Given as goal
 
 abbrev pub invariant-loop-offset : goal.invariant-loop-offset

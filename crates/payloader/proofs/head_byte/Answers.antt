@@ -1,6 +1,5 @@
 use mathlib.Core.Path.{◌∙◌}
 use Rattle.payloader.proofs.Parts.{head_first, head_second}
-use borrow.Author.Rules.{rules}
 use Rattle.payloader.proofs.head_byte.Goals as goal
 
 pub returns-then-i-eq0 : goal.returns-then-i-eq0

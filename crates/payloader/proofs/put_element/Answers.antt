@@ -6,7 +6,6 @@ use mathlib.Core.Bool.{Bool, cond}
 use lib.ListN.{length}
 use Rattle.leb128.specs.Field.{encode}
 use Rattle.payloader.proofs.Parts.{put_behind}
-use borrow.Author.Rules.{rules}
 use Rattle.payloader.proofs.put_element.Goals as goal
 
 pub put_leb128-next-requires : goal.put_leb128-next-requires

@@ -1,10 +1,8 @@
 use mathlib.Core.Path.{◌≡◌, ap, ◌∙◌}
-use Prim.Native.Nat.{ℕ, ◌+◌, ◌-◌, ◌≤◌}
+use Prim.Native.Nat.{ℕ, ◌+◌}
 use native.Mathlib.Omega.{arith}
 use mathlib.Core.List.{List}
-use borrow.Author.Rules.{rules}
-use lib.ListN.{length, get_or, set, take, drop, length-set}
-use lib.Seq.{sets}
+use lib.ListN.{get_or, set, length-set}
 use Rattle.base.proofs.Lists.{copy_more}
 use Rattle.payloader.proofs.Parts.{head_of, head_length}
 use Rattle.payloader.proofs.put_head.Goals as goal

@@ -1,12 +1,8 @@
-use mathlib.Core.Path.{◌≡◌, ap, ◌∙◌}
-use Prim.Native.Nat.{ℕ, ◌+◌, ◌-◌, ◌≤◌}
-use native.Mathlib.Omega.{arith}
-use mathlib.Core.List.{List}
-use borrow.Author.Rules.{rules}
-use lib.ListN.{length, get_or, set, take, drop, length-set}
+use mathlib.Core.Path.{◌≡◌}
+use Prim.Native.Nat.{◌-◌, ◌≤◌}
+use lib.ListN.{length, take, drop}
 use lib.Seq.{sets}
-use Rattle.base.proofs.Lists.{copy_more}
-use Rattle.payloader.proofs.Parts.{head_of, head_length}
+use Rattle.payloader.proofs.Parts.{head_of}
 use Rattle.payloader.proofs.put_head.Given as goal
 
 abbrev pub invariant-loop-i : goal.invariant-loop-i

@@ -1,5 +1,5 @@
 use mathlib.Core.Path.{◌≡◌, ap, ◌∙◌}
-use Prim.Native.Nat.{ℕ, ◌+◌, ◌-◌, ◌<◌}
+use Prim.Native.Nat.{ℕ, ◌+◌, ◌<◌}
 use native.Mathlib.Omega.{arith}
 use borrow.Author.Tests.{ne_eqb}
 use mathlib.Core.Bool.{◌&&◌}
@@ -16,7 +16,7 @@ use Rattle.packetizer.proofs.Records.{plan_length}
 use Rattle.aggregation.specs.New.{new_sequence}
 use Rattle.aggregation.specs.Header.{any_outside}
 use Rattle.payloader.proofs.Packets.{none_outside}
-use Rattle.payloader.proofs.Runs.{Sending, sending_first, sending_room, sending_next, sending_last}
+use Rattle.payloader.proofs.Runs.{sending_first, sending_room, sending_next, sending_last}
 use Rattle.payloader.proofs.put_packets.Goals as goal
 
 pub new_at-new-requires : goal.new_at-new-requires
@@ -56,9 +56,9 @@ loop-n-smaller c = omega (arith, c.loop-n-test.true)
 
 pub loop-n-preserved : goal.loop-n-preserved
 loop-n-preserved c = (
-      sending_next c.loop-n.invariant.0 c.requires.fits.there c.loop-n-test.true c.put_packet-at.ensures,
-      rw (ne_eqb (c.args.first + (c.loop-n.n + 1)) 0 (λ e. omega arith)),
-    )
+  sending_next c.loop-n.invariant.0 c.requires.fits.there c.loop-n-test.true c.put_packet-at.ensures,
+  rw (ne_eqb (c.args.first + (c.loop-n.n + 1)) 0 (λ e. omega arith)),
+)
 
 pub shape_of-out : goal.shape_of-out
 shape_of-out c = c.loop-n.invariant.0.storing.same

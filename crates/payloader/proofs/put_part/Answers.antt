@@ -6,7 +6,6 @@ use lib.Seq.{sets, length-take-le}
 use Rattle.base.proofs.Lists.{sets_append}
 use Rattle.obu.specs.Header.{header_length}
 use Rattle.payloader.proofs.Parts.{head_of, head_length, in_head, part_split}
-use borrow.Author.Rules.{rules}
 use Rattle.payloader.proofs.put_part.Goals as goal
 
 pub put_head-requires : goal.put_head-requires

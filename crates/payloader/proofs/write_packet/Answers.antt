@@ -1,5 +1,4 @@
 use mathlib.Core.Path.{◌∙◌}
-use borrow.Author.Rules.{rules}
 use Rattle.payloader.specs.Call.{to_write}
 use Rattle.payloader.proofs.Calls.{one_packet}
 use Rattle.payloader.proofs.write_packet.Goals as goal

@@ -1,15 +1,14 @@
 use mathlib.Core.Path.{◌≡◌, sym, ap, ◌∙◌}
-use Prim.Native.Nat.{◌+◌, ◌-◌, ◌≤◌, ◌<◌}
+use Prim.Native.Nat.{◌+◌, ◌≤◌, ◌<◌}
 use native.Mathlib.Omega.{arith}
 use mathlib.Core.Bool.{false}
 use mathlib.Core.List.{List}
 use lib.ListN.{length, drop}
-use borrow.Author.Rules.{rules}
 use borrow.Author.Tests.{ltb-false}
 use Rattle.obu.specs.Records.{obus_in}
 use Rattle.obu.specs.declared.Obu.{Obu}
 use Rattle.obu.proofs.Records.{obus_count}
-use Rattle.aggregation.specs.Inside.{settled, is_new, seen_inside, seen_next, seen_after}
+use Rattle.aggregation.specs.Inside.{is_new, seen_inside, seen_next, seen_after}
 use Rattle.aggregation.specs.Header.{outside}
 use Rattle.aggregation.specs.declared.Seen.{Seen}
 use Rattle.aggregation.specs.declared.Seen.TheVariants.{Nothing}

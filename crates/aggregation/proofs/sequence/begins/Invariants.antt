@@ -1,19 +1,10 @@
-use mathlib.Core.Path.{◌≡◌, sym, ap, ◌∙◌}
-use Prim.Native.Nat.{◌+◌, ◌-◌, ◌≤◌, ◌<◌}
-use native.Mathlib.Omega.{arith}
+use mathlib.Core.Path.{◌≡◌}
+use Prim.Native.Nat.{◌-◌, ◌≤◌}
 use mathlib.Core.Bool.{false}
-use mathlib.Core.List.{List}
-use lib.ListN.{length, drop}
-use borrow.Author.Rules.{rules}
-use borrow.Author.Tests.{ltb-false}
+use lib.ListN.{drop}
 use Rattle.obu.specs.Records.{obus_in}
-use Rattle.obu.specs.declared.Obu.{Obu}
-use Rattle.obu.proofs.Records.{obus_count}
-use Rattle.aggregation.specs.Inside.{settled, is_new, seen_inside, seen_next, seen_after}
-use Rattle.aggregation.specs.Header.{outside}
-use Rattle.aggregation.specs.declared.Seen.{Seen}
+use Rattle.aggregation.specs.Inside.{settled, seen_after}
 use Rattle.aggregation.specs.declared.Seen.TheVariants.{Nothing}
-use Rattle.aggregation.proofs.Sequences.{after_settled, seen_new, unsettled_clear, outside_drop, inside_at, seen_none, seen_step}
 use Rattle.aggregation.proofs.sequence.begins.Given as goal
 
 -- not settled by the first i OBUs; the others go on from what these say

@@ -1,7 +1,6 @@
 use mathlib.Core.Path.{sym, ap, ◌∙◌}
 use Rattle.aggregation.specs.Inside.{opens}
 use Rattle.aggregation.specs.declared.Seen.{Seen}
-use borrow.Author.Rules.{rules}
 use Rattle.aggregation.proofs.sequence.is_opening.Goals as goal
 
 pub returns-in-Plain : goal.returns-in-Plain

@@ -2,7 +2,6 @@ use mathlib.Core.Path.{◌≡◌, refl, sym, ◌∙◌}
 use native.Mathlib.Omega.{arith}
 use mathlib.Core.Bool.{Bool, true, false, cond, ◌&&◌}
 use lib.Dec.{eqb, ltb}
-use borrow.Author.Rules.{rules}
 use borrow.Author.Tests.{eq-eqb, ne_eqb, lt-ltb, le-ltb}
 use Rattle.aggregation.specs.New.{temporal_id}
 use Rattle.aggregation.specs.Inside.{opens}
@@ -28,7 +27,6 @@ module _ (a b c : Bool) where
       case-middle : (a : Bool) → Clear ≡ cond (a && (false && c)) New Clear
       case-middle true = refl
       case-middle false = refl
-
 
 pub returns-then-f-eq0 : goal.returns-then-f-eq0
 returns-then-f-eq0 c = let e : c.args.f.length ≡ 0 = c.if-f-eq0.true in

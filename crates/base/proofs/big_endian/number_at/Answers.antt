@@ -1,10 +1,8 @@
 use mathlib.Core.Path.{◌≡◌}
-use Prim.Native.Nat.{◌+◌, ◌-◌, ◌≤◌, ◌<◌}
+use Prim.Native.Nat.{◌+◌, ◌<◌}
 use native.Mathlib.Omega.{arith}
 use lib.ListN.{get_or}
-use Rattle.base.specs.BigEndian.{Reads}
 use Rattle.base.proofs.BigEndian.{reads_none, reads_more, reads_fits}
-use borrow.Author.Rules.{rules}
 use Rattle.base.proofs.big_endian.number_at.Goals as goal
 
 pub loop-i-init : goal.loop-i-init

@@ -1,11 +1,10 @@
 use mathlib.Core.Path.{◌≡◌, refl, sym, ap, ◌∙◌}
-use Prim.Native.Nat.{ℕ, ◌≤◌}
+use Prim.Native.Nat.{ℕ}
 use native.Mathlib.Omega.{arith}
-use lib.ListN.{length, length-set}
+use lib.ListN.{length-set}
 use lib.Seq.{sets}
 use Rattle.base.specs.BigEndian.{big_endian}
 use Rattle.base.proofs.BigEndian.{big_length, big_more, big_none}
-use borrow.Author.Rules.{rules}
 use Rattle.base.proofs.big_endian.put_number.Goals as goal
 
 pub loop-left-init : goal.loop-left-init
@@ -13,10 +12,10 @@ loop-left-init c = (omega arith, refl, refl)
 
 pub loop-left-preserved : goal.loop-left-preserved
 loop-left-preserved c = let v = c.loop-left in (
-      omega arith,
-      simp length-set v.invariant.1,
-      sym (big_more v.left v.high c.args.at v.out (omega arith)) ∙ v.invariant.2,
-    )
+  omega arith,
+  simp length-set v.invariant.1,
+  sym (big_more v.left v.high c.args.at v.out (omega arith)) ∙ v.invariant.2,
+)
 
 pub returns : goal.returns
 returns c = let v = c.loop-left in

@@ -1,11 +1,8 @@
-use mathlib.Core.Path.{◌≡◌, refl, sym, ap, ◌∙◌}
-use Prim.Native.Nat.{ℕ, ◌≤◌}
-use native.Mathlib.Omega.{arith}
-use lib.ListN.{length, length-set}
+use mathlib.Core.Path.{◌≡◌}
+use Prim.Native.Nat.{◌≤◌}
+use lib.ListN.{length}
 use lib.Seq.{sets}
 use Rattle.base.specs.BigEndian.{big_endian}
-use Rattle.base.proofs.BigEndian.{big_length, big_more, big_none}
-use borrow.Author.Rules.{rules}
 use Rattle.base.proofs.big_endian.put_number.Given as goal
 
 abbrev pub invariant-loop-left : goal.invariant-loop-left

@@ -1,5 +1,4 @@
 use mathlib.Core.Path.{sym}
-use borrow.Author.Rules.{rules}
 use Rattle.obu.proofs.Compares.{same_large}
 use Rattle.obu.proofs.compare.same_list.Goals as goal
 

@@ -2,13 +2,12 @@ use mathlib.Core.Path.{◌≡◌, sym, ap, ◌∙◌}
 use Prim.Native.Nat.{◌+◌, ◌-◌, ◌≤◌}
 use native.Mathlib.Omega.{arith}
 use lib.ListN.{length, take, drop, length-drop}
-use borrow.Author.Rules.{rules}
 use Rattle.base.proofs.Lists.{part_from}
 use Rattle.obu.specs.Header.{type_of, drops}
 use Rattle.obu.specs.Front.{Front, head_bytes, span_of, found, front_of}
 use Rattle.obu.specs.Paper.{paper_head, paper_read}
 use Rattle.obu.proofs.Scans.{spans}
-use Rattle.obu.proofs.Counts.{Counted, counted_first, padded_few, counted_drop, counted_keep, counted_full, counted_stop, counted_end}
+use Rattle.obu.proofs.Counts.{counted_first, padded_few, counted_drop, counted_keep, counted_full, counted_stop, counted_end}
 use Rattle.obu.proofs.unit.count_obus.Goals as goal
 
 pub loop-at-init : goal.loop-at-init

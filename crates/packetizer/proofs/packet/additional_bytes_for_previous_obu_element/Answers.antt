@@ -2,7 +2,6 @@ use mathlib.Core.Path.{sym, ◌∙◌}
 use native.Mathlib.Omega.{arith}
 use Rattle.packetizer.proofs.Fragments.{field_most}
 use Rattle.packetizer.proofs.Steps.{charge_none, charge_paid, charge_last}
-use borrow.Author.Rules.{rules}
 use Rattle.packetizer.proofs.packet.additional_bytes_for_previous_obu_element.Goals as goal
 
 pub returns-then-p-eq0 : goal.returns-then-p-eq0

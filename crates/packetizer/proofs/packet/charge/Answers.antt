@@ -1,6 +1,5 @@
 use native.Mathlib.Omega.{arith}
 use Rattle.packetizer.proofs.Steps.{charge_most}
-use borrow.Author.Rules.{rules}
 use Rattle.packetizer.proofs.packet.charge.Goals as goal
 
 pub overflow_add-result : goal.overflow_add-result

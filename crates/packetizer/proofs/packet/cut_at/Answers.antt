@@ -1,6 +1,5 @@
 use mathlib.Core.Path.{refl}
 use borrow.Author.Tests.{eq-eqb, ne_eqb}
-use borrow.Author.Rules.{rules}
 use Rattle.packetizer.proofs.packet.cut_at.Goals as goal
 
 pub returns-then-n-eq0 : goal.returns-then-n-eq0

@@ -1,6 +1,5 @@
 use mathlib.Core.Path.{sym, ◌∙◌}
 use Rattle.packetizer.proofs.Steps.{fragment_few, fragment_fourth}
-use borrow.Author.Rules.{rules}
 use Rattle.packetizer.proofs.packet.first_fragment_size.Goals as goal
 
 pub returns-then-p-ge-MAX_NUM_OBUS_TO_OMIT_SIZE : goal.returns-then-p-ge-MAX_NUM_OBUS_TO_OMIT_SIZE

@@ -2,13 +2,10 @@ use mathlib.Core.Path.{◌≡◌, sym, ap, ap₂, ◌∙◌}
 use Prim.Native.Nat.{ℕ, ◌+◌, ◌≤◌}
 use native.Mathlib.Omega.{arith}
 use mathlib.Core.Bool.{Bool, cond}
-use mathlib.Core.Logic.{⊎_elim}
 use lib.Dec.{ltb}
 use borrow.Author.Tests.{le-leb, lt-leb}
 use Rattle.packetizer.specs.Plan.{most_counted, left_in, fourth_or_later, is_full}
-use Rattle.packetizer.specs.declared.PacketMetadata.{PacketMetadata}
 use Rattle.packetizer.proofs.Steps.{charge_most}
-use borrow.Author.Rules.{rules}
 use Rattle.packetizer.proofs.packet.is_full.Goals as goal
 use Rattle.packetizer.proofs.packet.is_full.Goals.{then-p-ge-MAX_NUM_OBUS_TO_OMIT_SIZE, else-p-ge-MAX_NUM_OBUS_TO_OMIT_SIZE}
 

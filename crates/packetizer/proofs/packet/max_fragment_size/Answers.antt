@@ -1,5 +1,4 @@
 use Prim.Native.Nat.{ℕ, ◌+◌, ◌-◌, ◌≤◌, ◌<◌}
-use mathlib.Core.Logic.{⊎_elim}
 use native.Mathlib.Omega.{arith}
 use Rattle.leb128.specs.Laws.{cap}
 use Rattle.packetizer.proofs.Fragments.{Shifting, largest_none, shifting_room, shifting_end}

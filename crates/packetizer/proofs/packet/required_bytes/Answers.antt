@@ -2,7 +2,6 @@ use mathlib.Core.Path.{sym}
 use native.Mathlib.Omega.{arith}
 use Rattle.packetizer.proofs.Fragments.{field_most}
 use Rattle.packetizer.proofs.Steps.{need_few, need_fourth}
-use borrow.Author.Rules.{rules}
 use Rattle.packetizer.proofs.packet.required_bytes.Goals as goal
 
 pub overflow_cast-result : goal.overflow_cast-result

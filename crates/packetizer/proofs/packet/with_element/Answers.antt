@@ -1,7 +1,6 @@
 use mathlib.Core.Path.{refl}
 use native.Mathlib.Omega.{arith}
 use Rattle.packetizer.proofs.Steps.{need_bounds}
-use borrow.Author.Rules.{rules}
 use Rattle.packetizer.proofs.packet.with_element.Goals as goal
 
 pub overflow_add-result-2 : goal.overflow_add-result-2
