@@ -19,7 +19,7 @@ use Rattle.obu.specs.Front.{Front, span_of, Seen, found, stopped, sized_by, head
 use Rattle.obu.specs.Unit.{placed, ended, refused_by, Scan, scan_of}
 use Rattle.obu.proofs.Fronts.{extension_of, front_3, front_headed}
 use Rattle.obu.proofs.Scans.{scan_stopped}
-use Rattle.crate_laws.specs.Rust.{ErrPayloadTooSmallForObuExtensionHeader, ErrPayloadTooSmallForObuPayloadSize, Outcome, ok, err, panic, ◌>>=◌, at, slice}
+use Rattle.crate_laws.specs.Rust.{ErrPayloadTooSmallForObuExtensionHeader, ErrPayloadTooSmallForObuPayloadSize, Outcome, ok, err, panic, ◌>>=◌, slice}
 use Rattle.crate_laws.specs.Obu.{CrateObu, extension_header_at, sized_payload, obu_payload, obu_at, pushed, parse_from, parse_obus}
 use Rattle.crate_laws.specs.Same.{as_crate}
 use Rattle.crate_laws.specs.Payload.{payload}

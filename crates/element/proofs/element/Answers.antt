@@ -7,7 +7,6 @@ use Rattle.element.specs.Paper.{paper_walk}
 use Rattle.element.specs.declared.Part.{Part}
 use Rattle.element.proofs.Order.{chosen_in}
 use Rattle.element.proofs.Walking.{walked_kept, walked_none}
-use borrow.Author.Rules.{rules}
 use Rattle.element.proofs.element.Goals as goal
 
 pub overflow_add-end : goal.overflow_add-end

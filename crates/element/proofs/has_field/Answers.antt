@@ -4,7 +4,6 @@ use mathlib.Core.Bool.{not}
 use native.Mathlib.Omega.{arith}
 use borrow.Author.Tests.{ne_eqb}
 use Rattle.element.proofs.Reading.{eqb_less}
-use borrow.Author.Rules.{rules}
 use Rattle.element.proofs.has_field.Goals as goal
 
 pub returns-then-w-eq0 : goal.returns-then-w-eq0

@@ -2,7 +2,6 @@ use mathlib.Core.Path.{sym, ap, ap₂, ◌∙◌}
 use mathlib.Core.Bool.{Bool, ◌&&◌}
 use lib.Dec.{eqb}
 use Rattle.element.specs.Header.{n_bit}
-use borrow.Author.Rules.{rules}
 use Rattle.element.proofs.new_with_continuation.Goals as goal
 
 pub returns-then-header_z : goal.returns-then-header_z

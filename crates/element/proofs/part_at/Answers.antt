@@ -2,7 +2,6 @@ use mathlib.Core.Path.{◌≡◌, sym, ap, subst, ◌∙◌}
 use mathlib.Core.Bool.{Bool, true}
 use lib.ListN.{drop}
 use borrow.Author.Rules.{rules}
-use Rattle.base.specs.Answers.{given}
 use Rattle.base.proofs.Lists.{part_from}
 use Rattle.leb128.specs.Field.{sized, size_field}
 use Rattle.leb128.specs.Paper.{paper}

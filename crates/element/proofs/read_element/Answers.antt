@@ -6,7 +6,6 @@ use Rattle.leb128.specs.Paper.{paper}
 use Rattle.leb128.proofs.Padded.{read_says, unread_says}
 use Rattle.element.specs.Elements.{counted, element_at}
 use Rattle.element.proofs.Reading.{by_field_lem, field_inside, by_rest, field_zero, field_past, field_found, rest_none, rest_found}
-use borrow.Author.Rules.{rules}
 use Rattle.element.proofs.read_element.Goals as goal
 
 pub returns-then-length-eq0 : goal.returns-then-length-eq0

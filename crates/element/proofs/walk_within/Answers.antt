@@ -2,7 +2,6 @@ use mathlib.Core.Path.{sym, ap, ◌∙◌}
 use native.Mathlib.Omega.{arith}
 use Rattle.element.specs.Paper.{walked}
 use Rattle.element.proofs.Laws.{payload_fits, header_bad, header_good}
-use borrow.Author.Rules.{rules}
 use Rattle.element.proofs.walk_within.Goals as goal
 
 pub bounds-payload-0 : goal.bounds-payload-0

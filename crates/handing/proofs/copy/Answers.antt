@@ -2,7 +2,6 @@ use mathlib.Core.Path.{◌≡◌, ◌∙◌}
 use native.Mathlib.Omega.{arith}
 use lib.ListN.{length, take, drop, length-drop}
 use lib.Seq.{sets-eq, length-take-le}
-use borrow.Author.Rules.{rules}
 use Rattle.handing.proofs.copy.Goals as goal
 
 pub returns : goal.returns

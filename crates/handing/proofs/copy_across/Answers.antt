@@ -1,5 +1,4 @@
 use native.Mathlib.Omega.{arith}
-use borrow.Author.Rules.{rules}
 use Rattle.handing.proofs.Across.{copied_both, copied_last}
 use Rattle.handing.proofs.copy_across.Goals as goal
 

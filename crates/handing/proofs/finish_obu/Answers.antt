@@ -6,7 +6,6 @@ use mathlib.Core.Bool.{cond}
 use lib.ListN.{length, drop}
 use lib.Dec.{ltb}
 use mir.Val.{bool_byte}
-use borrow.Author.Rules.{rules}
 use Rattle.base.specs.Answers.{given}
 use Rattle.base.proofs.Tests.{as_number}
 use Rattle.obu.specs.Header.{type_of, drops}

@@ -5,7 +5,6 @@ use lib.ListN.{take, drop}
 use Rattle.obu.specs.Front.{head_bytes}
 use Rattle.handing.specs.Inside.{across}
 use Rattle.handing.proofs.Across.{across_none, across_length}
-use borrow.Author.Rules.{rules}
 use Rattle.handing.proofs.judge.Goals as goal
 
 pub returns-then-f-eq0 : goal.returns-then-f-eq0

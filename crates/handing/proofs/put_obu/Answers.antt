@@ -2,7 +2,6 @@ use mathlib.Core.Path.{◌≡◌, sym, ap, ◌∙◌}
 use Prim.Native.Nat.{ℕ, ◌+◌, ◌≤◌}
 use native.Mathlib.Omega.{arith}
 use lib.ListN.{length}
-use borrow.Author.Rules.{rules}
 use Rattle.leb128.specs.Field.{encode}
 use Rattle.obu.specs.Header.{header_length}
 use Rattle.obu.specs.Front.{span_of}
@@ -27,8 +26,7 @@ put_leb128-body-requires c =
 pub copy_across-requires : goal.copy_across-requires
 copy_across-requires c =
     let spans : span_of (paper_head c.args.head) ≡ length (fragment_of c.args.store.now c.args.payload.now c.args.f) = let a = c.args in c.requires.there.1 ∙ sym (across_length a.store.now a.payload.now a.f.kept a.f.start a.f.size c.requires.there.0.stored c.requires.there.0.lies) in
-    let room : let a = c.args in a.at + (header_length a.head.header + length (encode a.head.payload) + a.head.payload) ≤ length a.out.now = let a = c.args in let l = out_length (fragment_of a.store.now a.payload.now a.f) (paper_head a.head) (spans) in let r = c.requires.f_in_bounds c.if-write.true in omega arith in
-    (
+    let room : let a = c.args in a.at + (header_length a.head.header + length (encode a.head.payload) + a.head.payload) ≤ length a.out.now = let a = c.args in let l = out_length (fragment_of a.store.now a.payload.now a.f) (paper_head a.head) (spans) in let r = c.requires.f_in_bounds c.if-write.true in omega arith in (
       c.requires.there.0,
       omega (arith, c.requires.there.1, c.header_size.ensures),
       omega (arith, room, c.requires.there.1, c.header_size.ensures, c.put_header-field.ensures.0, c.put_header-field.new.out, c.put_leb128-body.ensures.0, c.put_leb128-body.new.out),

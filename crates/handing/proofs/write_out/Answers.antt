@@ -1,4 +1,3 @@
-use borrow.Author.Rules.{rules}
 use mathlib.Core.Bool.{true}
 use Rattle.handing.proofs.Turns.{handing_first, handing_end}
 use Rattle.handing.proofs.write_out.Goals as goal

@@ -1,4 +1,3 @@
-use Rattle.std.proofs.Common.{rules}
 use Rattle.receiver.proofs.finished_end.Goals as goal
 
 pub returns-then-y : goal.returns-then-y

@@ -1,4 +1,4 @@
-use Rattle.std.proofs.Common.{sym, rules}
+use Rattle.std.proofs.Common.{sym}
 use Rattle.receiver.proofs.Numbers.{ahead_first, ahead_repeat, ahead_by}
 use Rattle.receiver.proofs.is_ahead.Goals as goal
 

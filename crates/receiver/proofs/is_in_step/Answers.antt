@@ -1,4 +1,4 @@
-use Rattle.std.proofs.Common.{sym, rules}
+use Rattle.std.proofs.Common.{sym}
 use Rattle.receiver.proofs.Numbers.{step_first, step_by_lem}
 use Rattle.receiver.proofs.is_in_step.Goals as goal
 

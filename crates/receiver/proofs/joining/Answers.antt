@@ -1,4 +1,4 @@
-use Rattle.std.proofs.Common.{sym, ◌∙◌, rules}
+use Rattle.std.proofs.Common.{sym, ◌∙◌}
 use Rattle.receiver.specs.Joining.{follows}
 use Rattle.receiver.proofs.joining.Goals as goal
 

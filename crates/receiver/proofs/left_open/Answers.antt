@@ -1,4 +1,4 @@
-use Rattle.std.proofs.Common.{rules, le-ltb, lt-ltb}
+use Rattle.std.proofs.Common.{le-ltb, lt-ltb}
 use Rattle.receiver.proofs.left_open.Goals as goal
 
 pub returns-then-from-all : goal.returns-then-from-all

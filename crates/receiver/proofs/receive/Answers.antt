@@ -1,4 +1,4 @@
-use Rattle.std.proofs.Common.{◌≡◌, false, length, sym, refl, ap, ◌∙◌, rules}
+use Rattle.std.proofs.Common.{◌≡◌, false, length, sym, refl, ap, ◌∙◌}
 use Rattle.element.specs.Paper.{paper_walk}
 use Rattle.receiver.specs.Call.{too_long, Inputs, inputs}
 use Rattle.receiver.proofs.Outcomes.{leaves_refused, outcome_impossible, outcome_empty, outcome_long, outcome_behind, outcome_unread, walked_read}

@@ -1,4 +1,4 @@
-use Rattle.std.proofs.Common.{◌≡◌, ℕ, ◌+◌, Bool, false, List, length, sym, ap, ◌∙◌, subst, ap₂, arith, rules}
+use Rattle.std.proofs.Common.{◌≡◌, ℕ, ◌+◌, Bool, false, List, length, sym, ap, ◌∙◌, subst, ap₂, arith}
 use Rattle.base.specs.Answers.{Answer, given}
 use Rattle.handing.specs.Handing.{wires, padded_sizes}
 use Rattle.handing.specs.Inside.{put_first, parts_of, between, RoomAt, Finishing}
@@ -25,7 +25,7 @@ count_out-requires c =
     let asked : Inputs = let a = c.args in inputs a.state a.number a.payload.now a.store.now a.out.now in
     let z : Bool = c.header_z-z.result in
     let y : Bool = c.header_y-y.result in
-    let taking : Taking (asked) c.args.all (z) (y) (joined) (from) c.finished_end-to.result = record { opening = c.requires; z_is = c.header_z-z.ensures; y_is = c.header_y-y.ensures; k_is = c.joining-joined.ensures; from_is = c.thrown_away-from.ensures; to_is = c.finished_end-to.ensures; } in
+    let taking : Taking (asked) c.args.all (z) (y) (joined) (from) c.finished_end-to.result = record { opening = c.requires; z_is = c.header_z-z.ensures; y_is = c.header_y-y.ensures; k_is = c.joining-joined.ensures; from_is = c.thrown_away-from.ensures; to_is = c.finished_end-to.ensures } in
     let finishes : let a = c.args in Finishing a.payload.now c.first_cursor-cursor.result (from) c.finished_end-to.result a.store.now (joined) = finishing (taking) _ c.first_cursor-cursor.ensures in
     finishes
 
@@ -36,7 +36,7 @@ overflow_add-size c =
     let joined : ℕ = c.joining-joined.result in
     let asked : Inputs = let a = c.args in inputs a.state a.number a.payload.now a.store.now a.out.now in
     let z : Bool = c.header_z-z.result in
-    let taking : Taking (asked) c.args.all (z) (y) (joined) (from) c.finished_end-to.result = record { opening = c.requires; z_is = c.header_z-z.ensures; y_is = c.header_y-y.ensures; k_is = c.joining-joined.ensures; from_is = c.thrown_away-from.ensures; to_is = c.finished_end-to.ensures; } in
+    let taking : Taking (asked) c.args.all (z) (y) (joined) (from) c.finished_end-to.result = record { opening = c.requires; z_is = c.header_z-z.ensures; y_is = c.header_y-y.ensures; k_is = c.joining-joined.ensures; from_is = c.thrown_away-from.ensures; to_is = c.finished_end-to.ensures } in
     let finishing-now : List (List ℕ) = let a = c.args in between a.store.now (joined) a.payload.now (from) c.finished_end-to.result in
     let wired : Answer (List ℕ) = wires (finishing-now) in
     let counted : let h = c.in-Bytes.handed in (b : List ℕ) × (wired ≡ given b) × (h.bytes ≡ length b) × (h.padded ≡ padded_sizes (finishing-now)) = let b = counted_given _ (sym (ap paper_handed c.in-Bytes.is) ∙ c.count_out.ensures.0) in (b.0, b.1, ap (λ (h : Handed). h.bytes) b.2, ap (λ (h : Handed). h.padded) b.2) in
@@ -52,7 +52,7 @@ returns-then-too_long c =
     let y : Bool = c.header_y-y.result in
     let joined : ℕ = c.joining-joined.result in
     let from : ℕ = c.thrown_away-from.result in
-    let taking : Taking (asked) c.args.all (z) (y) (joined) (from) c.finished_end-to.result = record { opening = c.requires; z_is = c.header_z-z.ensures; y_is = c.header_y-y.ensures; k_is = c.joining-joined.ensures; from_is = c.thrown_away-from.ensures; to_is = c.finished_end-to.ensures; } in
+    let taking : Taking (asked) c.args.all (z) (y) (joined) (from) c.finished_end-to.result = record { opening = c.requires; z_is = c.header_z-z.ensures; y_is = c.header_y-y.ensures; k_is = c.joining-joined.ensures; from_is = c.thrown_away-from.ensures; to_is = c.finished_end-to.ensures } in
     let finishing-now : List (List ℕ) = let a = c.args in between a.store.now (joined) a.payload.now (from) c.finished_end-to.result in
     let wired : Answer (List ℕ) = wires (finishing-now) in
     let counted : let h = c.in-Bytes.handed in (b : List ℕ) × (wired ≡ given b) × (h.bytes ≡ length b) × (h.padded ≡ padded_sizes (finishing-now)) = let b = counted_given _ (sym (ap paper_handed c.in-Bytes.is) ∙ c.count_out.ensures.0) in (b.0, b.1, ap (λ (h : Handed). h.bytes) b.2, ap (λ (h : Handed). h.padded) b.2) in
@@ -69,7 +69,7 @@ returns-then-bytes-out c =
     let asked : Inputs = let a = c.args in inputs a.state a.number a.payload.now a.store.now a.out.now in
     let z : Bool = c.header_z-z.result in
     let y : Bool = c.header_y-y.result in
-    let taking : Taking (asked) c.args.all (z) (y) (joined) (from) c.finished_end-to.result = record { opening = c.requires; z_is = c.header_z-z.ensures; y_is = c.header_y-y.ensures; k_is = c.joining-joined.ensures; from_is = c.thrown_away-from.ensures; to_is = c.finished_end-to.ensures; } in
+    let taking : Taking (asked) c.args.all (z) (y) (joined) (from) c.finished_end-to.result = record { opening = c.requires; z_is = c.header_z-z.ensures; y_is = c.header_y-y.ensures; k_is = c.joining-joined.ensures; from_is = c.thrown_away-from.ensures; to_is = c.finished_end-to.ensures } in
     let fits : too_long (length c.args.store.now) (c.left_open-left.result.kept + c.left_open-left.result.size) ≡ false = sym c.too_long.ensures ∙ c.if-too_long.false in
     let b = counted in
     let same = c.count_out.ensures.1 in
@@ -86,7 +86,7 @@ write_out-requires c =
     let asked : Inputs = let a = c.args in inputs a.state a.number a.payload.now a.store.now a.out.now in
     let z : Bool = c.header_z-z.result in
     let y : Bool = c.header_y-y.result in
-    let taking : Taking (asked) c.args.all (z) (y) (joined) (from) c.finished_end-to.result = record { opening = c.requires; z_is = c.header_z-z.ensures; y_is = c.header_y-y.ensures; k_is = c.joining-joined.ensures; from_is = c.thrown_away-from.ensures; to_is = c.finished_end-to.ensures; } in
+    let taking : Taking (asked) c.args.all (z) (y) (joined) (from) c.finished_end-to.result = record { opening = c.requires; z_is = c.header_z-z.ensures; y_is = c.header_y-y.ensures; k_is = c.joining-joined.ensures; from_is = c.thrown_away-from.ensures; to_is = c.finished_end-to.ensures } in
     let finishes : let a = c.args in Finishing a.payload.now c.first_cursor-cursor.result (from) c.finished_end-to.result a.store.now (joined) = finishing (taking) _ c.first_cursor-cursor.ensures in
     let b = counted in
     record { finishing = finishes; room_at = subst (RoomAt _ 0) (sym b.1) (omega (arith, c.if-bytes-out.false, b.2)) }
@@ -99,7 +99,7 @@ copy-requires c =
     let joined : ℕ = c.joining-joined.result in
     let asked : Inputs = let a = c.args in inputs a.state a.number a.payload.now a.store.now a.out.now in
     let z : Bool = c.header_z-z.result in
-    let taking : Taking (asked) c.args.all (z) (y) (joined) (from) c.finished_end-to.result = record { opening = c.requires; z_is = c.header_z-z.ensures; y_is = c.header_y-y.ensures; k_is = c.joining-joined.ensures; from_is = c.thrown_away-from.ensures; to_is = c.finished_end-to.ensures; } in
+    let taking : Taking (asked) c.args.all (z) (y) (joined) (from) c.finished_end-to.result = record { opening = c.requires; z_is = c.header_z-z.ensures; y_is = c.header_y-y.ensures; k_is = c.joining-joined.ensures; from_is = c.thrown_away-from.ensures; to_is = c.finished_end-to.ensures } in
     let finishing-now : List (List ℕ) = let a = c.args in between a.store.now (joined) a.payload.now (from) c.finished_end-to.result in
     let wired : Answer (List ℕ) = wires (finishing-now) in
     let counted : let h = c.in-Bytes.handed in (b : List ℕ) × (wired ≡ given b) × (h.bytes ≡ length b) × (h.padded ≡ padded_sizes (finishing-now)) = let b = counted_given _ (sym (ap paper_handed c.in-Bytes.is) ∙ c.count_out.ensures.0) in (b.0, b.1, ap (λ (h : Handed). h.bytes) b.2, ap (λ (h : Handed). h.padded) b.2) in
@@ -113,7 +113,7 @@ returns-in-Refused c =
     let y : Bool = c.header_y-y.result in
     let joined : ℕ = c.joining-joined.result in
     let from : ℕ = c.thrown_away-from.result in
-    let taking : Taking (asked) c.args.all (z) (y) (joined) (from) c.finished_end-to.result = record { opening = c.requires; z_is = c.header_z-z.ensures; y_is = c.header_y-y.ensures; k_is = c.joining-joined.ensures; from_is = c.thrown_away-from.ensures; to_is = c.finished_end-to.ensures; } in
+    let taking : Taking (asked) c.args.all (z) (y) (joined) (from) c.finished_end-to.result = record { opening = c.requires; z_is = c.header_z-z.ensures; y_is = c.header_y-y.ensures; k_is = c.joining-joined.ensures; from_is = c.thrown_away-from.ensures; to_is = c.finished_end-to.ensures } in
     taking_broken (taking) (counted_refused _ _ (sym (ap paper_handed c.in-Refused.is) ∙ c.count_out.ensures.0)) c.count_out.ensures.1
 
 pub returns-else-bytes-out : goal.returns-else-bytes-out
@@ -126,7 +126,7 @@ returns-else-bytes-out c =
     let asked : Inputs = let a = c.args in inputs a.state a.number a.payload.now a.store.now a.out.now in
     let z : Bool = c.header_z-z.result in
     let y : Bool = c.header_y-y.result in
-    let taking : Taking (asked) c.args.all (z) (y) (joined) (from) c.finished_end-to.result = record { opening = c.requires; z_is = c.header_z-z.ensures; y_is = c.header_y-y.ensures; k_is = c.joining-joined.ensures; from_is = c.thrown_away-from.ensures; to_is = c.finished_end-to.ensures; } in
+    let taking : Taking (asked) c.args.all (z) (y) (joined) (from) c.finished_end-to.result = record { opening = c.requires; z_is = c.header_z-z.ensures; y_is = c.header_y-y.ensures; k_is = c.joining-joined.ensures; from_is = c.thrown_away-from.ensures; to_is = c.finished_end-to.ensures } in
     let fits : too_long (length c.args.store.now) (c.left_open-left.result.kept + c.left_open-left.result.size) ≡ false = sym c.too_long.ensures ∙ c.if-too_long.false in
     let b = counted in
     let same = c.count_out.ensures.1 in

@@ -1,4 +1,4 @@
-use Rattle.std.proofs.Common.{rules, eq-eqb, ne_eqb}
+use Rattle.std.proofs.Common.{eq-eqb, ne_eqb}
 use Rattle.receiver.proofs.thrown_away.Goals as goal
 
 pub returns-then-joined-eq0 : goal.returns-then-joined-eq0

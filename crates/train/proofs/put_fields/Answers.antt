@@ -4,7 +4,6 @@ use lib.ListN.{length}
 use lib.Seq.{length-sets}
 use Rattle.base.proofs.BigEndian.{big_length}
 use Rattle.base.proofs.Lists.{put_then}
-use borrow.Author.Rules.{rules}
 use Rattle.train.proofs.put_fields.Goals as goal
 
 pub put_number-requires : goal.put_number-requires

@@ -1,6 +1,5 @@
 use native.Mathlib.Omega.{arith}
 use Rattle.train.proofs.Fields.{writable_word}
-use borrow.Author.Rules.{rules}
 use Rattle.train.proofs.put_record_head.Goals as goal
 
 pub overflow_add-size : goal.overflow_add-size

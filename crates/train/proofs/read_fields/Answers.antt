@@ -6,7 +6,6 @@ use lib.ListN.{length}
 use Rattle.base.specs.BigEndian.{value_at}
 use Rattle.train.specs.Train.{counted_width, number_width}
 use Rattle.train.proofs.Reading.{counted_within, fields_none, fields_cut, fields_short, number_cut, fields_there}
-use borrow.Author.Rules.{rules}
 use Rattle.train.proofs.read_fields.Goals as goal
 
 pub returns-then-bytes-eq0 : goal.returns-then-bytes-eq0

@@ -1,5 +1,4 @@
 use Rattle.train.proofs.Reading.{head_none, head_short, head_long, head_other}
-use borrow.Author.Rules.{rules}
 use Rattle.train.proofs.read_head.Goals as goal
 
 pub returns-then-bytes-eq0 : goal.returns-then-bytes-eq0

@@ -6,7 +6,6 @@ use Rattle.base.proofs.Lists.{put_front}
 use Rattle.train.specs.Train.{long_head, record_fields}
 use Rattle.train.proofs.Fields.{fields_length}
 use Rattle.train.proofs.Reading.{counted_within}
-use borrow.Author.Rules.{rules}
 use Rattle.train.proofs.record_head.Goals as goal
 
 pub put_fields-requires : goal.put_fields-requires

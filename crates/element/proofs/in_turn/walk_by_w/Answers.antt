@@ -3,7 +3,6 @@ use Prim.Native.Nat.{ℕ, ◌-◌}
 use native.Mathlib.Omega.{arith}
 use lib.ListN.{length, drop}
 use borrow.Author.Tests.{eq-eqb, le-ltb}
-use borrow.Author.Rules.{rules}
 use Rattle.element.specs.Elements.{counting}
 use Rattle.element.specs.Paper.{walked}
 use Rattle.element.proofs.Laws.{from_none}

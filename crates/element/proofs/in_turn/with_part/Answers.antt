@@ -1,5 +1,4 @@
 use native.Mathlib.Omega.{arith}
-use borrow.Author.Rules.{rules}
 use Rattle.element.proofs.Padded.{padded_one}
 use Rattle.element.proofs.in_turn.with_part.Goals as goal
 
