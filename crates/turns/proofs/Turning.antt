@@ -2,7 +2,7 @@
 use Rattle.std.proofs.Common.{◌≡◌, ℕ, ◌≤◌, true, false, List, length, sym, refl, ap, ◌∙◌, arith}
 use Rattle.base.specs.Lists.{front}
 use Rattle.turns.specs.Text.{line_bytes, line_text}
-use Rattle.turns.specs.Orders.{Told, ends, asks, tells, says, order_of, Tells, Turned}
+use Rattle.turns.specs.Orders.{Told, ends, asks, says, order_of, Tells, Turned}
 use Rattle.turns.specs.declared.Order.{Order}
 use Rattle.turns.specs.declared.Subject.{Subject}
 use Rattle.turns.specs.declared.Word.{Word}

@@ -1,4 +1,4 @@
-use Rattle.std.proofs.Common.{ℕ, ap, rules}
+use Rattle.std.proofs.Common.{ℕ, ap}
 use Rattle.packing.specs.declared.Wait.TheVariants as wait
 use Rattle.packing.proofs.following.Goals as goal
 

@@ -1,4 +1,4 @@
-use Rattle.std.proofs.Common.{[], sym, refl, ap, ◌∙◌, arith, rules}
+use Rattle.std.proofs.Common.{[], sym, refl, ap, ◌∙◌, arith}
 use Rattle.turns.proofs.Turning.{ended, asked}
 use Rattle.packing.specs.declared.Wait.TheVariants as wait
 use Rattle.packing.specs.Paper.{paper_length}

@@ -1,4 +1,4 @@
-use Rattle.std.proofs.Common.{[], sym, refl, ap, arith, rules}
+use Rattle.std.proofs.Common.{[], sym, refl, ap, arith}
 use Rattle.base.specs.Lists.{front}
 use Rattle.turns.specs.Orders.{Told}
 use Rattle.turns.proofs.Turning.{asked}

@@ -1,4 +1,4 @@
-use Rattle.std.proofs.Common.{◌≡◌, ℕ, ◌+◌, ◌*◌, take, sym, ap, ◌∙◌, arith, length-take-le, rules}
+use Rattle.std.proofs.Common.{◌≡◌, ℕ, ◌+◌, ◌*◌, take, sym, ap, ◌∙◌, arith, length-take-le}
 use Rattle.base.specs.Lists.{front}
 use Rattle.obu.specs.Laws.{Bytes}
 use Rattle.obu.specs.Records.{obu_numbers}

@@ -1,4 +1,4 @@
-use Rattle.std.proofs.Common.{refl, arith, rules}
+use Rattle.std.proofs.Common.{refl, arith}
 use Rattle.turns.proofs.Turning.{said}
 use Rattle.packing.specs.declared.Wait.TheVariants as wait
 use Rattle.packing.specs.Steps.{awaits}

@@ -1,4 +1,4 @@
-use Rattle.std.proofs.Common.{[], refl, arith, rules}
+use Rattle.std.proofs.Common.{[], refl, arith}
 use Rattle.turns.proofs.Turning.{asked}
 use Rattle.packing.specs.Pack.{version_width}
 use Rattle.packing.specs.Steps.{starts_with}

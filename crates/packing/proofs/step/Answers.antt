@@ -1,4 +1,4 @@
-use Rattle.std.proofs.Common.{take, sym, refl, ap, rules}
+use Rattle.std.proofs.Common.{take, sym, refl, ap}
 use Rattle.turns.specs.Orders.{says}
 use Rattle.turns.specs.declared.Subject.{Subject}
 use Rattle.turns.specs.declared.Word.TheVariants as word

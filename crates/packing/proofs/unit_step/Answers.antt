@@ -1,4 +1,4 @@
-use Rattle.std.proofs.Common.{◌≡◌, ℕ, [], sym, refl, ap, ◌∙◌, arith, rules}
+use Rattle.std.proofs.Common.{◌≡◌, ℕ, [], sym, refl, ap, ◌∙◌, arith}
 use Rattle.turns.specs.Orders.{says}
 use Rattle.turns.specs.declared.Order.{Order}
 use Rattle.turns.specs.declared.Subject.TheVariants as subject

@@ -1,4 +1,4 @@
-use Rattle.std.proofs.Common.{◌≡◌, ℕ, ◌+◌, [], sym, refl, ap, ◌∙◌, arith, rules}
+use Rattle.std.proofs.Common.{◌≡◌, ℕ, ◌+◌, [], sym, refl, ap, ◌∙◌, arith}
 use Rattle.train.specs.Train.{number_width}
 use Rattle.turns.specs.Orders.{asks}
 use Rattle.turns.proofs.Turning.{asked}

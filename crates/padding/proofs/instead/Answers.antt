@@ -1,5 +1,4 @@
-use mathlib.Core.Path.{refl, sym, ap, ◌∙◌}
-use native.Mathlib.Omega.{arith}
+use mathlib.Core.Path.{sym, ap, ◌∙◌}
 use lib.ListN.{take}
 use Rattle.packing.specs.Steps.{Ready}
 use Rattle.packing.specs.declared.Wait.{Wait}
@@ -7,8 +6,7 @@ use Rattle.packing.specs.declared.Wait.TheVariants as wait
 use Rattle.packing.proofs.Turning.{ready_at}
 use Rattle.padding.specs.Padded.{line_of}
 use Rattle.padding.specs.Steps.{wait_for, text_for}
-use Rattle.padding.proofs.Printing.{no_packets, writes}
-use borrow.Author.Rules.{rules}
+use Rattle.padding.proofs.Printing.{writes}
 use Rattle.padding.proofs.instead.Goals as goal
 
 pub slice_bounds-padded_in-end : goal.slice_bounds-padded_in-end
@@ -28,4 +26,3 @@ returns-in-Packets c = let a = c.args in
     (ap wait_for c.in-Packets.is ∙ ap wait.Packets (sym c.passing.ensures))
     (ap (λ (w : Wait). text_for w count a.input.now) c.in-Packets.is ∙ ap (line_of count) (sym c.padded_in-padded.ensures))
     c.turned.ensures c.put_line-end.ensures.0 c.put_line-end.ensures.1 c.put_line-end.ensures.2
-

@@ -3,7 +3,6 @@ use Rattle.obu.specs.Paper.{paper_list}
 use Rattle.obu.specs.declared.Listed.{Listed}
 use Rattle.obu.proofs.Scans.{given_listed}
 use Rattle.padding.proofs.Printing.{listed_one, not_refused}
-use borrow.Author.Rules.{rules}
 use Rattle.padding.proofs.padded_in.Goals as goal
 
 pub count_obus-requires : goal.count_obus-requires

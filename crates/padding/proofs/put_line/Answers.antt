@@ -7,7 +7,6 @@ use Rattle.base.specs.Lists.{Put}
 use Rattle.base.proofs.Lists.{put_then, put_front}
 use Rattle.turns.proofs.Digits.{decimal_short}
 use Rattle.padding.specs.Padded.{line_of}
-use borrow.Author.Rules.{rules}
 use Rattle.padding.proofs.put_line.Goals as goal
 
 pub put_labelled-end-requires : goal.put_labelled-end-requires

@@ -1,4 +1,4 @@
-use Rattle.std.proofs.Common.{arith, rules}
+use Rattle.std.proofs.Common.{arith}
 use Rattle.base.specs.Lists.{Put}
 use Rattle.base.proofs.Lists.{put_then, put_front}
 use Rattle.turns.specs.Text.{line_text}

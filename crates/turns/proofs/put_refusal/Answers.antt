@@ -1,4 +1,4 @@
-use Rattle.std.proofs.Common.{arith, rules}
+use Rattle.std.proofs.Common.{arith}
 use Rattle.base.proofs.Lists.{put_then}
 use Rattle.base.proofs.Words.{words_short}
 use Rattle.turns.proofs.Digits.{decimal_short}

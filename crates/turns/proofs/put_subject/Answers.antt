@@ -1,4 +1,3 @@
-use Rattle.std.proofs.Common.{rules}
 use Rattle.turns.proofs.put_subject.Goals as goal
 
 pub returns-in-Input : goal.returns-in-Input

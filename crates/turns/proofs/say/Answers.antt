@@ -1,4 +1,3 @@
-use Rattle.std.proofs.Common.{rules}
 use Rattle.turns.proofs.say.Goals as goal
 
 pub returns : goal.returns

@@ -1,4 +1,4 @@
-use Rattle.std.proofs.Common.{ℕ, ap, ◌∙◌, arith, rules}
+use Rattle.std.proofs.Common.{ℕ, ap, ◌∙◌, arith}
 use Rattle.base.specs.BigEndian.{value_at}
 use Rattle.train.specs.Train.{number_width}
 use Rattle.packing.proofs.Reading.{mtu_within, head_cut, head_found}

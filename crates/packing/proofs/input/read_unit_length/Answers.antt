@@ -1,5 +1,4 @@
 use Rattle.packing.proofs.Reading.{length_none, length_cut, length_over, length_stated}
-use Rattle.std.proofs.Common.{rules}
 use Rattle.packing.proofs.input.read_unit_length.Goals as goal
 
 pub returns-then-bytes-eq0 : goal.returns-then-bytes-eq0

@@ -1,6 +1,5 @@
 use Rattle.packing.specs.declared.input.InputVersion.TheVariants as version
 use Rattle.packing.proofs.Reading.{version_none, version_known, version_other}
-use Rattle.std.proofs.Common.{rules}
 use Rattle.packing.proofs.input.read_version.Goals as goal
 
 pub returns-then-bytes-eq0 : goal.returns-then-bytes-eq0

@@ -1,4 +1,3 @@
-use Rattle.std.proofs.Common.{rules}
 use Rattle.packing.proofs.subjects.read_subject.Goals as goal
 
 pub returns-in-Length : goal.returns-in-Length

@@ -1,4 +1,3 @@
-use Rattle.std.proofs.Common.{rules}
 use Rattle.packing.proofs.subjects.written_subject.Goals as goal
 
 pub returns-in-Unit : goal.returns-in-Unit

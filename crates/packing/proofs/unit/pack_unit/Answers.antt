@@ -1,4 +1,4 @@
-use Rattle.std.proofs.Common.{◌≡◌, ℕ, ◌/◌, length, take, sym, ap, ◌∙◌, arith, length-take-le, rules}
+use Rattle.std.proofs.Common.{◌≡◌, ℕ, ◌/◌, length, take, sym, ap, ◌∙◌, arith, length-take-le}
 use Rattle.packetizer.specs.Call.{After}
 use Rattle.packetizer.specs.Paper.{paper}
 use Rattle.obu.specs.Records.{obu_numbers}

@@ -1,4 +1,4 @@
-use Rattle.std.proofs.Common.{◌≡◌, ℕ, ◌+◌, ◌&&◌, eqb, List, length, get_or, sym, ap, ◌∙◌, subst, arith, rules}
+use Rattle.std.proofs.Common.{◌≡◌, ℕ, ◌+◌, ◌&&◌, eqb, List, length, get_or, sym, ap, ◌∙◌, subst, arith}
 use lib.Seq.{length-sets}
 use Rattle.obu.specs.Unit.{obus_of}
 use Rattle.obu.specs.Records.{obus_in}
@@ -40,11 +40,14 @@ put_packet-requires c =
     let are-obus : obus_in c.args.obus.now ≡ obus_of c.args.unit.now = ap obus_in c.requires.lent.obus_is ∙ unit_flat c.args.unit.now (unit-bytes) in
     let a = c.args in
     let r = c.requires in
-    let head = c.put_record_head-body.ensures in record { lent = r.lent; writable = record {
+    let head = c.put_record_head-body.ensures in record {
+      lent = r.lent;
+      writable = record {
         there = r.there;
         new_is = c.new_at-new.ensures ∙ ap (λ (os : List Obu). eqb a.k 0 && new_sequence a.unit.now os) (are-obus);
         room = omega (arith, r.room, simp fields_length at head.cursor, simp length-sets at (ap length head.stored));
-      } }
+      };
+    }
 
 pub returns : goal.returns
 returns c =
