@@ -2,7 +2,6 @@ use mathlib.Core.Path.{sym, ap, ◌∙◌}
 use Rattle.element.specs.Paper.{paper_walk}
 use Rattle.element.specs.Elements.{payload_elements}
 use Rattle.av1rtp.proofs.Words.{walk_gave, walk_declined}
-use borrow.Author.Rules.{rules}
 use Rattle.av1rtp.proofs.av1rtp_element.Goals as goal
 
 pub returns-in-Whole : goal.returns-in-Whole

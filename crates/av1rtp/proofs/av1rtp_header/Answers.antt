@@ -2,7 +2,6 @@ use mathlib.Core.Path.{sym, ap, ◌∙◌}
 use Rattle.aggregation.specs.Paper.{paper}
 use Rattle.av1rtp.specs.Calls.{one}
 use Rattle.av1rtp.proofs.Words.{gave, declined}
-use borrow.Author.Rules.{rules}
 use Rattle.av1rtp.proofs.av1rtp_header.Goals as goal
 
 pub returns-in-Header : goal.returns-in-Header

@@ -2,7 +2,6 @@ use mathlib.Core.Path.{sym, ap, ◌∙◌}
 use Rattle.obu.specs.Paper.{paper_list}
 use Rattle.av1rtp.specs.Calls.{listed_words}
 use Rattle.av1rtp.proofs.Words.{gave, declined}
-use borrow.Author.Rules.{rules}
 use Rattle.av1rtp.proofs.av1rtp_list.Goals as goal
 
 pub returns-in-Listed : goal.returns-in-Listed

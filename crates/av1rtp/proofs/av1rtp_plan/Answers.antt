@@ -3,7 +3,6 @@ use Rattle.packetizer.specs.Call.{After}
 use Rattle.packetizer.specs.Paper.{paper}
 use Rattle.av1rtp.specs.Calls.{planned_words}
 use Rattle.av1rtp.proofs.Words.{gave, declined}
-use borrow.Author.Rules.{rules}
 use Rattle.av1rtp.proofs.av1rtp_plan.Goals as goal
 
 pub returns-in-Planned : goal.returns-in-Planned

@@ -8,7 +8,6 @@ use Rattle.receiver.specs.declared.Received.{Received}
 use Rattle.receiver.proofs.Counts.{padded_within}
 use Rattle.av1rtp.specs.Calls.{state_in, state_after, received_words}
 use Rattle.av1rtp.proofs.Words.{gave, declined}
-use borrow.Author.Rules.{rules}
 use Rattle.av1rtp.proofs.av1rtp_receive.Goals as goal
 
 pub overflow_add-padded : goal.overflow_add-padded

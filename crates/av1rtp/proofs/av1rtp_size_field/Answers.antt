@@ -5,7 +5,6 @@ use Rattle.leb128.specs.Paper.{paper}
 use Rattle.av1rtp.specs.Calls.{field_words}
 use Rattle.base.proofs.Tests.{as_number}
 use Rattle.av1rtp.proofs.Words.{gave, declined}
-use borrow.Author.Rules.{rules}
 use Rattle.av1rtp.proofs.av1rtp_size_field.Goals as goal
 
 pub returns-in-Read : goal.returns-in-Read

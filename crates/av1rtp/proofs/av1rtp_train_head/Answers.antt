@@ -2,7 +2,6 @@ use mathlib.Core.Path.{sym, ap, ◌∙◌}
 use Rattle.train.specs.Paper.{paper_head}
 use Rattle.av1rtp.specs.Calls.{head_words}
 use Rattle.av1rtp.proofs.Words.{gave, declined}
-use borrow.Author.Rules.{rules}
 use Rattle.av1rtp.proofs.av1rtp_train_head.Goals as goal
 
 pub returns-in-Train : goal.returns-in-Train

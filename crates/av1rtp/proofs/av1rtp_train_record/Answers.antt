@@ -3,7 +3,6 @@ use Rattle.train.specs.Paper.{paper_record}
 use Rattle.train.specs.declared.RecordRead.{RecordRead}
 use Rattle.av1rtp.specs.Calls.{record_answer, record_words}
 use Rattle.av1rtp.proofs.Words.{gave, declined}
-use borrow.Author.Rules.{rules}
 use Rattle.av1rtp.proofs.av1rtp_train_record.Goals as goal
 
 pub returns-in-Found : goal.returns-in-Found

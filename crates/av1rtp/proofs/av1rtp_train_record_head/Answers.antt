@@ -1,4 +1,3 @@
-use borrow.Author.Rules.{rules}
 use Rattle.av1rtp.proofs.av1rtp_train_record_head.Goals as goal
 
 -- what is lent is what the call within gives

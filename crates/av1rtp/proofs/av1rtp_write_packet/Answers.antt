@@ -1,7 +1,6 @@
 use mathlib.Core.Path.{ap}
 use Rattle.payloader.specs.Paper.{paper}
 use Rattle.av1rtp.proofs.Words.{write_gave, write_declined}
-use borrow.Author.Rules.{rules}
 use Rattle.av1rtp.proofs.av1rtp_write_packet.Goals as goal
 
 pub returns-in-Written : goal.returns-in-Written

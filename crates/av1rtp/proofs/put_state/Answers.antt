@@ -1,7 +1,6 @@
 use mathlib.Core.Path.{ap}
 use Prim.Native.Nat.{ℕ}
 use mathlib.Core.List.{[], ◌∷◌}
-use borrow.Author.Rules.{rules}
 use Rattle.base.proofs.Tests.{as_number}
 use Rattle.av1rtp.proofs.put_state.Goals as goal
 

@@ -2,7 +2,6 @@ use mathlib.Core.Path.{refl}
 use native.Mathlib.Omega.{arith}
 use Rattle.listing.specs.Listing.{bad_text}
 use Rattle.listing.proofs.Turning.{printed, wrote}
-use borrow.Author.Rules.{rules}
 use Rattle.listing.proofs.bad_input.Goals as goal
 
 pub returns : goal.returns

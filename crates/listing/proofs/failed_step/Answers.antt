@@ -3,7 +3,6 @@ use native.Mathlib.Omega.{arith}
 use Rattle.turns.proofs.Turning.{said}
 use Rattle.listing.specs.Steps.{awaits}
 use Rattle.listing.specs.declared.Wait.TheVariants as wait
-use borrow.Author.Rules.{rules}
 use Rattle.listing.proofs.failed_step.Goals as goal
 
 pub returns : goal.returns

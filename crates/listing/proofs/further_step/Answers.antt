@@ -8,7 +8,6 @@ use Rattle.listing.specs.Listing.{refused_text}
 use Rattle.listing.specs.declared.Wait.TheVariants as wait
 use Rattle.listing.proofs.Lines.{told_refused, told_counts, told_more, planned_filled}
 use Rattle.listing.proofs.Turning.{wrote, by_case, ready_told}
-use borrow.Author.Rules.{rules}
 use Rattle.listing.proofs.further_step.Goals as goal
 
 pub returns-then-got-gt0 : goal.returns-then-got-gt0

@@ -5,7 +5,6 @@ use Rattle.listing.specs.Paper.{paper_head}
 use Rattle.listing.specs.Steps.{head_told}
 use Rattle.listing.proofs.Inputs.{head_fits}
 use Rattle.listing.proofs.Turning.{no_text, wrote, by_case}
-use borrow.Author.Rules.{rules}
 use Rattle.listing.proofs.head_step.Goals as goal
 
 pub returns-in-Bad : goal.returns-in-Bad

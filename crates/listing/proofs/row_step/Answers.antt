@@ -7,7 +7,6 @@ use Rattle.listing.specs.Steps.{awaits}
 use Rattle.listing.specs.declared.Wait.TheVariants as wait
 use Rattle.listing.proofs.Lines.{filled_obus, filled_plan, filled_headed, filled_row}
 use Rattle.listing.proofs.Turning.{wrote, wrote_none}
-use borrow.Author.Rules.{rules}
 use Rattle.listing.proofs.row_step.Goals as goal
 
 pub returns-then-packets-k : goal.returns-then-packets-k

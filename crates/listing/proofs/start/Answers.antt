@@ -4,7 +4,6 @@ use mathlib.Core.List.{[]}
 use Rattle.turns.proofs.Turning.{asked}
 use Rattle.listing.specs.Input.{head_width}
 use Rattle.listing.specs.Steps.{starts_with}
-use borrow.Author.Rules.{rules}
 use Rattle.listing.proofs.start.Goals as goal
 
 pub returns : goal.returns

@@ -4,7 +4,6 @@ use lib.ListN.{take}
 use Rattle.listing.specs.Input.{head_of}
 use Rattle.listing.specs.declared.Wait.TheVariants as wait
 use Rattle.listing.proofs.Turning.{wrote_none, came_is, came_few, ready_at, ready_told, ready_head, ready_unit, ready_row, stepped}
-use borrow.Author.Rules.{rules}
 use Rattle.listing.proofs.step.Goals as goal
 
 pub slice_bounds-head_step-end : goal.slice_bounds-head_step-end

@@ -7,7 +7,6 @@ use Rattle.base.proofs.Lists.{put_front}
 use Rattle.listing.specs.Steps.{awaits}
 use Rattle.listing.specs.declared.Wait.TheVariants as wait
 use Rattle.listing.proofs.Turning.{no_text, wrote}
-use borrow.Author.Rules.{rules}
 use Rattle.listing.proofs.unit_step.Goals as goal
 
 pub returns-then-got-length : goal.returns-then-got-length

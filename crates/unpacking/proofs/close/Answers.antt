@@ -12,7 +12,6 @@ use Rattle.unpacking.specs.Steps.{awaits}
 use Rattle.unpacking.specs.declared.losses.Losses.{Losses}
 use Rattle.unpacking.proofs.LossesLine.{losses_short}
 use Rattle.unpacking.proofs.Turning.{gives}
-use borrow.Author.Rules.{rules}
 use Rattle.unpacking.proofs.close.Goals as goal
 
 pub returns-then-is_none : goal.returns-then-is_none

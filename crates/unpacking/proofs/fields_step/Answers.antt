@@ -12,7 +12,6 @@ use Rattle.unpacking.specs.Unpack.{payload_bytes}
 use Rattle.unpacking.specs.declared.Wait.TheVariants as wait
 use Rattle.unpacking.specs.Steps.{awaits, fields_told}
 use Rattle.unpacking.proofs.Turning.{gives, gives_as}
-use borrow.Author.Rules.{rules}
 use Rattle.unpacking.proofs.fields_step.Goals as goal
 
 pub returns-then-length-gt-PAYLOAD_BYTES : goal.returns-then-length-gt-PAYLOAD_BYTES

@@ -1,7 +1,6 @@
 use mathlib.Core.Path.{ap}
 use Prim.Native.Nat.{ℕ}
 use Rattle.unpacking.specs.declared.Wait.TheVariants as wait
-use borrow.Author.Rules.{rules}
 use Rattle.unpacking.proofs.following.Goals as goal
 
 pub returns : goal.returns

@@ -9,7 +9,6 @@ use Rattle.unpacking.specs.declared.records.RecordStep.{RecordStep}
 use Rattle.unpacking.specs.Steps.{fields_width, next, payload_told}
 use Rattle.unpacking.proofs.Steps.{step_within, answered_breaks, answered_passes, answered_takes}
 use Rattle.unpacking.proofs.Turning.{gives, gives_as, comes}
-use borrow.Author.Rules.{rules}
 use Rattle.unpacking.proofs.payload_step.Goals as goal
 
 pub overflow_add-place : goal.overflow_add-place

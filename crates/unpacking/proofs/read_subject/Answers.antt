@@ -1,4 +1,3 @@
-use borrow.Author.Rules.{rules}
 use Rattle.unpacking.proofs.read_subject.Goals as goal
 
 pub returns-in-Fields : goal.returns-in-Fields

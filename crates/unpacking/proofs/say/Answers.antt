@@ -3,7 +3,6 @@ use native.Mathlib.Omega.{arith}
 use Rattle.turns.proofs.Turning.{said}
 use Rattle.unpacking.specs.Steps.{awaits}
 use Rattle.unpacking.proofs.Turning.{gives}
-use borrow.Author.Rules.{rules}
 use Rattle.unpacking.proofs.say.Goals as goal
 
 pub returns : goal.returns

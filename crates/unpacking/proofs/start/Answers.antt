@@ -8,7 +8,6 @@ use Rattle.unpacking.specs.declared.losses.Losses.{Losses}
 use Rattle.unpacking.specs.declared.Wait.TheVariants as wait
 use Rattle.unpacking.specs.Steps.{version_bytes, starts_with}
 use Rattle.unpacking.proofs.Turning.{gives}
-use borrow.Author.Rules.{rules}
 use Rattle.unpacking.proofs.start.Goals as goal
 
 pub returns : goal.returns

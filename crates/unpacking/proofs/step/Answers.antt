@@ -8,7 +8,6 @@ use Rattle.turns.proofs.Turning.{ended}
 use Rattle.unpacking.specs.Steps.{awaits}
 use Rattle.unpacking.specs.declared.Wait.TheVariants as wait
 use Rattle.unpacking.proofs.Turning.{gives, stays, by_wait}
-use borrow.Author.Rules.{rules}
 use Rattle.unpacking.proofs.step.Goals as goal
 
 pub slice_bounds-version_step-end : goal.slice_bounds-version_step-end

@@ -1,7 +1,6 @@
 use mathlib.Core.Path.{sym, ap}
 use Rattle.unpacking.specs.Steps.{broken_told}
 use Rattle.unpacking.proofs.Turning.{gives_as}
-use borrow.Author.Rules.{rules}
 use Rattle.unpacking.proofs.stop_at.Goals as goal
 
 pub returns : goal.returns

@@ -14,7 +14,6 @@ use Rattle.turns.proofs.Turning.{asked}
 use Rattle.unpacking.specs.declared.Wait.TheVariants as wait
 use Rattle.unpacking.specs.Steps.{fields_width, awaits, first, version_told}
 use Rattle.unpacking.proofs.Turning.{gives, gives_as}
-use borrow.Author.Rules.{rules}
 use Rattle.unpacking.proofs.version_step.Goals as goal
 
 pub overflow_add-width : goal.overflow_add-width

@@ -1,5 +1,4 @@
 use Rattle.unpacking.proofs.Turning.{written_before}
-use borrow.Author.Rules.{rules}
 use Rattle.unpacking.proofs.written_subject.Goals as goal
 
 pub returns-else-k-eq0 : goal.returns-else-k-eq0

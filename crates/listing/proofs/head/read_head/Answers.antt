@@ -3,7 +3,6 @@ use Prim.Native.Nat.{ℕ}
 use native.Mathlib.Omega.{arith}
 use Rattle.listing.specs.Input.{states}
 use Rattle.listing.proofs.Inputs.{head_cut, head_other, head_long, head_good}
-use borrow.Author.Rules.{rules}
 use Rattle.listing.proofs.head.read_head.Goals as goal
 
 pub returns-then-head-lt-HEAD_BYTES : goal.returns-then-head-lt-HEAD_BYTES

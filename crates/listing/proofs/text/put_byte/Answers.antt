@@ -1,4 +1,3 @@
-use borrow.Author.Rules.{rules}
 use Rattle.listing.proofs.text.put_byte.Goals as goal
 
 pub returns : goal.returns

@@ -1,7 +1,6 @@
 use native.Mathlib.Omega.{arith}
 use Rattle.base.proofs.Lists.{put_then}
 use Rattle.turns.proofs.Digits.{decimal_short}
-use borrow.Author.Rules.{rules}
 use Rattle.listing.proofs.text.put_column.Goals as goal
 
 pub put_text-requires : goal.put_text-requires

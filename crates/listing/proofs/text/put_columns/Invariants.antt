@@ -1,8 +1,6 @@
 use Prim.Native.Nat.{◌-◌}
-use native.Mathlib.Omega.{arith}
-use borrow.Author.Rules.{rules}
 use lib.ListN.{length}
-use Rattle.listing.proofs.Columns.{Columns, no_columns, columns_next, all_columns}
+use Rattle.listing.proofs.Columns.{Columns}
 use Rattle.listing.proofs.text.put_columns.Given as goal
 
 abbrev pub invariant-loop-i : goal.invariant-loop-i

@@ -1,5 +1,4 @@
 use native.Mathlib.Omega.{arith}
-use borrow.Author.Rules.{rules}
 use Rattle.base.specs.Lists.{Put}
 use Rattle.base.proofs.Lists.{put_then}
 use Rattle.listing.specs.Row.{row_text}

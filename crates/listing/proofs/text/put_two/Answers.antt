@@ -3,7 +3,6 @@ use Rattle.base.specs.Lists.{Put}
 use Rattle.base.proofs.Lists.{put_then}
 use Rattle.listing.specs.Listing.{two_numbers}
 use Rattle.listing.proofs.Turning.{printed}
-use borrow.Author.Rules.{rules}
 use Rattle.listing.proofs.text.put_two.Goals as goal
 
 pub returns : goal.returns

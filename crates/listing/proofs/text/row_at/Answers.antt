@@ -1,6 +1,5 @@
 use mathlib.Core.Path.{◌≡◌}
 use lib.ListN.{get_or}
-use borrow.Author.Rules.{rules}
 use Rattle.obu.specs.Records.{obus_in}
 use Rattle.packetizer.specs.Records.{no_packet, packets_in}
 use Rattle.aggregation.proofs.Calls.{given_whole}

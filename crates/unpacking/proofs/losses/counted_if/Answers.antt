@@ -1,4 +1,3 @@
-use borrow.Author.Rules.{rules}
 use Rattle.unpacking.proofs.losses.counted_if.Goals as goal
 
 pub returns-then-so : goal.returns-then-so

@@ -2,7 +2,6 @@ use native.Mathlib.Omega.{arith}
 use Rattle.base.specs.Lists.{Put}
 use Rattle.base.proofs.Lists.{put_then, put_front}
 use Rattle.unpacking.specs.Unpack.{losses_line}
-use borrow.Author.Rules.{rules}
 use Rattle.unpacking.proofs.losses.put_losses.Goals as goal
 
 pub returns : goal.returns

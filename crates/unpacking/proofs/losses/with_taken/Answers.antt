@@ -1,6 +1,5 @@
 use mathlib.Core.Path.{ap₂}
 use Prim.Native.Nat.{ℕ}
-use borrow.Author.Rules.{rules}
 use Rattle.unpacking.proofs.losses.with_taken.Goals as goal
 
 pub returns : goal.returns

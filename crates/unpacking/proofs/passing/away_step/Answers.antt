@@ -2,7 +2,6 @@ use Prim.Native.Nat.{ℕ}
 use native.Mathlib.Omega.{arith}
 use lib.ListN.{length}
 use Rattle.unpacking.proofs.Turning.{gives_as, at_once_over, at_once_all, left_cut, left_more, left_done}
-use borrow.Author.Rules.{rules}
 use Rattle.unpacking.proofs.passing.away_step.Goals as goal
 
 pub returns-then-got-at_once : goal.returns-then-got-at_once

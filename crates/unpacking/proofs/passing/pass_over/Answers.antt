@@ -6,7 +6,6 @@ use Rattle.turns.proofs.Turning.{said}
 use Rattle.unpacking.specs.Unpack.{with_passed}
 use Rattle.unpacking.specs.Steps.{fields_width, next, passed_told}
 use Rattle.unpacking.proofs.Turning.{gives}
-use borrow.Author.Rules.{rules}
 use Rattle.unpacking.proofs.passing.pass_over.Goals as goal
 
 pub returns : goal.returns

@@ -7,7 +7,6 @@ use Rattle.turns.proofs.Turning.{asked}
 use Rattle.unpacking.specs.Steps.{awaits, at_once}
 use Rattle.unpacking.specs.declared.Wait.TheVariants as wait
 use Rattle.unpacking.proofs.Turning.{gives, at_once_most}
-use borrow.Author.Rules.{rules}
 use Rattle.unpacking.proofs.passing.read_away.Goals as goal
 
 pub returns : goal.returns

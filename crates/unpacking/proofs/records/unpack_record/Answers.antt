@@ -2,7 +2,6 @@ use mathlib.Core.Path.{sym, ap}
 use lib.Seq.{length-take-le}
 use Rattle.receiver.specs.Paper.{paper}
 use Rattle.unpacking.proofs.Steps.{step_cut, step_received}
-use borrow.Author.Rules.{rules}
 use Rattle.unpacking.proofs.records.unpack_record.Goals as goal
 
 pub returns-then-payload-length : goal.returns-then-payload-length
