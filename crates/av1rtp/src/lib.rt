@@ -1,5 +1,5 @@
-// The static library for C and Rust callers (include/av1rtp.h). Each export makes one proved call and hands its answer on: a number,
-// 0 or that of the refusal, and four words. Only numbers and lent numbers cross, and no export asks anything of them.
+// What C and Rust callers call (include/av1rtp.h); av1rtp_c makes the archive of it. Each export makes one proved call and hands its
+// answer on: a number, 0 or that of the refusal, and four words. Only numbers and lent numbers cross, and no export asks anything of them.
 #![tactic(auto)]
 
 ghost use Rattle.std.specs.Prelude.{◌≡◌, [], ◌∷◌, drop};
