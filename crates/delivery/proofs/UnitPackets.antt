@@ -29,7 +29,6 @@ use Rattle.aggregation.specs.Header as header
 use Rattle.aggregation.specs.Header.{last_obu, last_start, byte_of}
 use Rattle.aggregation.proofs.Bits.{bit_z, bit_y, bits_w, bit_n}
 use Rattle.payloader.specs.Payload.{part_of, parts_of, fielded, payload, payloads_from}
-use Rattle.element.specs.Header.{w_of}
 use Rattle.lawful.specs.Train.{NonEmpty, Packet}
 use Rattle.lawful.specs.Payload.{Laid, Counted, each, exact, Carries, CarryAll}
 use Rattle.lawful.proofs.Trains.{Chained, last_y}
