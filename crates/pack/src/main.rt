@@ -1,6 +1,6 @@
 // Reads mtu, first number and units from standard input, and writes the train of their packets (G1 to G4, G6, G7, G12, G14).
 #![tactic(auto)]
 
-fn main() {
-    running::pack::run(running::standard());
+fn main(rt: HostRuntime) {
+    running::pack::run(&mut running::standard(&rt));
 }

@@ -1,6 +1,6 @@
 // Reads what `pack` reads from standard input, and prints a line for each unit: its place, and its padded size fields (G1, G14, G17).
 #![tactic(auto)]
 
-fn main() {
-    running::padded::run(running::standard());
+fn main(rt: HostRuntime) {
+    running::padded::run(&mut running::standard(&rt));
 }

@@ -1,6 +1,6 @@
 // planlist: reads a head and a unit from standard input, and prints the unit's plan (G8 to G14).
 #![tactic(auto)]
 
-fn main() {
-    running::planlist::run(running::standard());
+fn main(rt: HostRuntime) {
+    running::planlist::run(&mut running::standard(&rt));
 }

@@ -6,110 +6,114 @@ pub mod padded;
 pub mod planlist;
 pub mod unpack;
 
-ghost use Rattle.std.specs.Prelude.{◌≡◌, length};
+ghost use Rattle.std.specs.Prelude.{◌≡◌, ◌≤◌, take, length, IfOk, OnErr};
+ghost use Rattle.std.specs.Io.{ReadsAtMost, WritesAtMost};
 ghost use Rattle.turns.specs.Text.{line_bytes};
 ghost use Rattle.turns.specs.Orders.{CameWithin, Within};
 
-use libc::{STDERR_FILENO, STDIN_FILENO, STDOUT_FILENO};
+use std::io;
+use std::io::{ErrorKind, Read, Stderr, Stdin, Stdout, Write};
 use turns::{Came, Order};
 
-// The descriptors that a program reads, writes and says its lines on.
-#[derive(Clone, Copy)]
-pub struct Streams {
-    pub from: i32,
-    pub to: i32,
-    pub errors: i32,
+// What a program reads from, and where it writes its bytes and says its lines.
+#[derive(Drop)]
+pub struct Streams<R, W, E> {
+    pub from: R,
+    pub to: W,
+    pub errors: E,
 }
 
 // Those of a program that is started.
-pub fn standard() -> Streams {
+pub fn standard(rt: &HostRuntime) -> Streams<Stdin, Stdout, Stderr> {
     Streams {
-        from: STDIN_FILENO,
-        to: STDOUT_FILENO,
-        errors: STDERR_FILENO,
+        from: rt.stdin(),
+        to: rt.stdout(),
+        errors: rt.stderr(),
     }
 }
 
 // One read; an interrupted one is tried again.
-fn read_once(from: i32, input: &mut [u8]) -> isize {
-    let mut tries = u64::MAX;
-    while tries > 0 {
-        let got = libc::read(from, input);
-        if got >= 0 {
-            return got;
+fn read_once<R: Read>(from: &mut R, input: &mut [u8]) -> io::Result<usize>
+    ensures { ReadsAtMost result input.new }
+{
+    for _ in 0..u64::MAX {
+        match from.read(input) {
+            Ok(count) => return Ok(count),
+            Err(error) => {
+                if error.kind() != ErrorKind::Interrupted {
+                    return Err(error);
+                }
+            }
         }
-        if os::errno() != libc::EINTR {
-            return got;
-        }
-        tries -= 1;
     }
-    -1
+    Err(io::Error::from(ErrorKind::Interrupted))
 }
 
 // One write; an interrupted one is tried again.
-fn write_once(to: i32, bytes: &[u8]) -> isize {
-    let mut tries = u64::MAX;
-    while tries > 0 {
-        let put = libc::write(to, bytes);
-        if put >= 0 {
-            return put;
+fn write_once<W: Write>(to: &mut W, bytes: &[u8]) -> io::Result<usize>
+    ensures { WritesAtMost result bytes.now }
+{
+    for _ in 0..u64::MAX {
+        match to.write(bytes) {
+            Ok(count) => return Ok(count),
+            Err(error) => {
+                if error.kind() != ErrorKind::Interrupted {
+                    return Err(error);
+                }
+            }
         }
-        if os::errno() != libc::EINTR {
-            return put;
-        }
-        tries -= 1;
     }
-    -1
+    Err(io::Error::from(ErrorKind::Interrupted))
 }
 
 // Reads until the bytes lent are full, the input ends or a read fails.
-fn read_all(from: i32, input: &mut [u8]) -> Came
+fn read_all<R: Read>(from: &mut R, input: &mut [u8]) -> Came
     ensures { CameWithin result (length input.old) }
 {
     let mut done: usize = 0;
     while done < input.len() {
-        let got = read_once(from, &mut input[done..]);
-        if got < 0 {
-            return Came::ReadFailed;
+        match read_once(from, &mut input[done..]) {
+            Ok(0) => return Came::Read(done),
+            Ok(count) => done += count,
+            Err(_) => return Came::ReadFailed,
         }
-        let count = io::count(got, &input[done..]);
-        if count == 0 {
-            return Came::Read(done);
-        }
-        done += count;
     }
     Came::Read(done)
 }
 
 // Writes all, in one write where the system takes it so; false where a write fails.
-fn write_all(to: i32, bytes: &[u8]) -> bool {
+fn write_all<W: Write>(to: &mut W, bytes: &[u8]) -> bool {
     let mut done: usize = 0;
     while done < bytes.len() {
-        let put = write_once(to, &bytes[done..]);
-        let count = io::count(put, &bytes[done..]);
-        if count == 0 {
-            return false;
+        match write_once(to, &bytes[done..]) {
+            Ok(0) | Err(_) => return false,
+            Ok(count) => done += count,
         }
-        done += count;
     }
     true
 }
 
 // Carries out an order: bytes written, a line said, bytes read. Where none are asked for the input stays as it is.
-fn obey(order: Order, streams: Streams, input: &mut [u8], out: &[u8], line: &[u8]) -> Came
+fn obey<R: Read, W: Write, E: Write>(
+    order: Order,
+    streams: &mut Streams<R, W, E>,
+    input: &mut [u8],
+    out: &[u8],
+    line: &[u8],
+) -> Came
     requires { Within order (length input.old) (length out.now) × (length line.now ≡ line_bytes) }
     ensures { CameWithin result (length input.old) × (order.read ≡ 0 → input.new ≡ input.old) }
 {
     let write = order.write;
     let say = order.say;
     let read = order.read;
-    let written = write_all(streams.to, &out[..write]);
-    write_all(streams.errors, &line[..say]);
+    let written = write_all(&mut streams.to, &out[..write]);
+    write_all(&mut streams.errors, &line[..say]);
     if !written {
         return Came::WriteFailed;
     }
     if read == 0 {
         return Came::Read(0);
     }
-    read_all(streams.from, &mut input[..read])
+    read_all(&mut streams.from, &mut input[..read])
 }

@@ -3,6 +3,7 @@ ghost use Rattle.packing.specs.Steps.{Goes};
 
 use crate::Streams;
 use packing::Turn;
+use std::io::{Read, Write};
 
 // What a step is lent (L12 to L14).
 const INPUT: usize = packing::UNIT_STORE;
@@ -16,9 +17,9 @@ const WRITTEN: usize = packing::RECORD_BYTES;
 const LINE: usize = turns::LINE_BYTES;
 
 // One turn: the order carried out, and the next step.
-fn next(
+fn next<R: Read, W: Write, E: Write>(
     turn: Turn,
-    streams: Streams,
+    streams: &mut Streams<R, W, E>,
     input: &mut [u8; INPUT],
     obus: &mut [u32; OBUS],
     plan: &mut [u32; PLAN],
@@ -33,7 +34,7 @@ fn next(
 }
 
 // All turns. Nothing says that the input ends, so they are counted down from a number that no run uses up.
-pub fn run(streams: Streams) {
+pub fn run<R: Read, W: Write, E: Write>(streams: &mut Streams<R, W, E>) {
     let mut input = [0u8; INPUT];
     let mut obus = [0u32; OBUS];
     let mut plan = [0u32; PLAN];

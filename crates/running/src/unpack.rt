@@ -2,6 +2,7 @@
 ghost use Rattle.unpacking.specs.Steps.{Goes};
 
 use crate::Streams;
+use std::io::{Read, Write};
 use unpacking::Turn;
 
 // What a step is lent (L14, L15).
@@ -14,9 +15,9 @@ const OUT: usize = unpacking::OUTPUT_BYTES;
 const LINE: usize = turns::LINE_BYTES;
 
 // One turn: the order carried out, and the next step.
-fn next(
+fn next<R: Read, W: Write, E: Write>(
     turn: Turn,
-    streams: Streams,
+    streams: &mut Streams<R, W, E>,
     input: &mut [u8; INPUT],
     store: &mut [u8; STORE],
     out: &mut [u8; OUT],
@@ -30,7 +31,7 @@ fn next(
 }
 
 // All turns. Nothing says that the input ends, so they are counted down from a number that no run uses up.
-pub fn run(streams: Streams) {
+pub fn run<R: Read, W: Write, E: Write>(streams: &mut Streams<R, W, E>) {
     let mut input = [0u8; INPUT];
     let mut store = [0u8; STORE];
     let mut out = [0u8; OUT];

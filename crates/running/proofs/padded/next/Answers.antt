@@ -4,7 +4,7 @@ use borrow.Author.Rules.{rules}
 use Rattle.running.proofs.padded.next.Goals as goal
 
 pub step-requires : goal.step-requires
-step-requires c = let t = c.args.turn in
+step-requires g c = let t = c.args.turn in
     record {
       input_is = search rules;
       obus_is = search rules;

@@ -3,21 +3,6 @@ use borrow.Author.Rules.{rules}
 use Rattle.packing.specs.Steps.{Goes}
 use Rattle.running.proofs.padded.run.Goals as goal
 
-pub run_spec : {M : Type 1} → statement M
-run_spec =
-    tie.close
-    (tie.spec
-    invariant-loop
-    decreases-loop
-    start-requires
-    loop-holds
-    next-requires
-    sub-left
-    loop-less
-    loop-again
-    returns
-    returns-2)
-
 pub loop-left-init : goal.loop-left-init
-loop-left-init c = let g = c.start-turn.ensures in
+loop-left-init g c = let g = c.start-turn.ensures in
     record { within = g.turned.1; still = g.still; ready = ready_as _ _ _ g.turned.0.place_is tt }

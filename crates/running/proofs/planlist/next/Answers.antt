@@ -3,13 +3,13 @@ use borrow.Author.Rules.{rules}
 use Rattle.running.proofs.planlist.next.Goals as goal
 
 pub step-requires : goal.step-requires
-step-requires c = record {
-      input_is = search rules;
-      unit_is = search rules;
-      obus_is = search rules;
-      plan_is = search rules;
-      out_is = search rules;
-      line_is = search rules;
-      came_within = came_wider c.obey-came.result _ _ (search rules) c.obey-came.ensures.0;
-      ready = c.requires.ready;
-    }
+step-requires g c = record {
+  input_is = search rules;
+  unit_is = search rules;
+  obus_is = search rules;
+  plan_is = search rules;
+  out_is = search rules;
+  line_is = search rules;
+  came_within = came_wider c.obey-came.result _ _ (search rules) c.obey-came.ensures.0;
+  ready = c.requires.ready;
+}

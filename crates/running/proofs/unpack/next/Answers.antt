@@ -3,11 +3,11 @@ use borrow.Author.Rules.{rules}
 use Rattle.running.proofs.unpack.next.Goals as goal
 
 pub step-requires : goal.step-requires
-step-requires c = record {
-      input_is = search rules;
-      store_is = search rules;
-      out_is = search rules;
-      line_is = search rules;
-      came_within = came_wider c.obey-came.result _ _ (search rules) c.obey-came.ensures.0;
-      possible = c.requires.possible;
-    }
+step-requires g c = record {
+  input_is = search rules;
+  store_is = search rules;
+  out_is = search rules;
+  line_is = search rules;
+  came_within = came_wider c.obey-came.result _ _ (search rules) c.obey-came.ensures.0;
+  possible = c.requires.possible;
+}
