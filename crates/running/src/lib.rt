@@ -6,10 +6,12 @@ pub mod padded;
 pub mod planlist;
 pub mod unpack;
 
-ghost use Rattle.std.specs.Prelude.{◌≡◌, ◌≤◌, take, length, IfOk, OnErr};
+ghost use Rattle.std.specs.Prelude.{◌≡◌, ◌<◌, take, length, IsTrue, IfOk, OnErr};
 ghost use Rattle.std.specs.Io.{ReadsAtMost, WritesAtMost};
+ghost use Rattle.std.specs.Io.KnownBytes.{Appends, Consumes, IsAtEnd, Keeps};
 ghost use Rattle.turns.specs.Text.{line_bytes};
 ghost use Rattle.turns.specs.Orders.{CameWithin, Within};
+ghost use Rattle.running.specs.Streams.{Arrived, FrontWritten, Written};
 
 use std::io;
 use std::io::{ErrorKind, Read, Stderr, Stdin, Stdout, Write};
@@ -34,7 +36,10 @@ pub fn standard(rt: &HostRuntime) -> Streams<Stdin, Stdout, Stderr> {
 
 // One read; an interrupted one is tried again.
 fn read_once<R: Read>(from: &mut R, input: &mut [u8]) -> io::Result<usize>
-    ensures { ReadsAtMost result input.new }
+    ensures within { ReadsAtMost result input.new }
+    ensures ok { IfOk result (λ n. Consumes (R.remaining from.old) (R.remaining from.new) (take n input.new)) }
+    ensures end { IfOk result (λ n. n ≡ 0 → 0 < length input.old → IsAtEnd (R.remaining from.new)) }
+    ensures err { OnErr result (Keeps (R.remaining from.old) (R.remaining from.new)) }
 {
     for _ in 0..u64::MAX {
         match from.read(input) {
@@ -51,7 +56,9 @@ fn read_once<R: Read>(from: &mut R, input: &mut [u8]) -> io::Result<usize>
 
 // One write; an interrupted one is tried again.
 fn write_once<W: Write>(to: &mut W, bytes: &[u8]) -> io::Result<usize>
-    ensures { WritesAtMost result bytes.now }
+    ensures within { WritesAtMost result bytes.now }
+    ensures ok { IfOk result (λ n. Appends (W.contents to.old) (W.contents to.new) (take n bytes.now)) }
+    ensures err { OnErr result (Keeps (W.contents to.old) (W.contents to.new)) }
 {
     for _ in 0..u64::MAX {
         match to.write(bytes) {
@@ -68,7 +75,8 @@ fn write_once<W: Write>(to: &mut W, bytes: &[u8]) -> io::Result<usize>
 
 // Reads until the bytes lent are full, the input ends or a read fails.
 fn read_all<R: Read>(from: &mut R, input: &mut [u8]) -> Came
-    ensures { CameWithin result (length input.old) }
+    ensures within { CameWithin result (length input.old) }
+    ensures arrived { Arrived result (R.remaining from.old) (R.remaining from.new) input.new (length input.old) }
 {
     let mut done: usize = 0;
     while done < input.len() {
@@ -82,7 +90,10 @@ fn read_all<R: Read>(from: &mut R, input: &mut [u8]) -> Came
 }
 
 // Writes all, in one write where the system takes it so; false where a write fails.
-fn write_all<W: Write>(to: &mut W, bytes: &[u8]) -> bool {
+fn write_all<W: Write>(to: &mut W, bytes: &[u8]) -> bool
+    ensures all { IsTrue result → Appends (W.contents to.old) (W.contents to.new) bytes.now }
+    ensures front { FrontWritten (W.contents to.old) (W.contents to.new) bytes.now }
+{
     let mut done: usize = 0;
     while done < bytes.len() {
         match write_once(to, &bytes[done..]) {
@@ -102,7 +113,11 @@ fn obey<R: Read, W: Write, E: Write>(
     line: &[u8],
 ) -> Came
     requires { Within order (length input.old) (length out.now) × (length line.now ≡ line_bytes) }
-    ensures { CameWithin result (length input.old) × (order.read ≡ 0 → input.new ≡ input.old) }
+    ensures within { CameWithin result (length input.old) }
+    ensures still { order.read ≡ 0 → input.new ≡ input.old }
+    ensures written { Written result (W.contents streams.old.to) (W.contents streams.new.to) (take order.write out.now) }
+    ensures said { FrontWritten (E.contents streams.old.errors) (E.contents streams.new.errors) (take order.say line.now) }
+    ensures arrived { Arrived result (R.remaining streams.old.from) (R.remaining streams.new.from) input.new order.read }
 {
     let write = order.write;
     let say = order.say;

@@ -11,6 +11,6 @@ step-requires g c = let t = c.args.turn in
       plan_is = search rules;
       written_is = search rules;
       line_is = search rules;
-      came_within = came_wider c.obey-came.result _ _ (search rules) c.obey-came.ensures.0;
-      ready = ready_still t.place.wait t.order t.place.mtu _ _ _ _ c.requires.still c.obey-came.ensures.1 c.requires.ready;
+      came_within = came_wider c.obey-came.result _ _ (search rules) c.obey-came.ensures.within;
+      ready = ready_still t.place.wait t.order t.place.mtu _ _ _ _ c.requires.still c.obey-came.ensures.still c.requires.ready;
     }

@@ -10,6 +10,6 @@ step-requires g c = record {
   plan_is = search rules;
   out_is = search rules;
   line_is = search rules;
-  came_within = came_wider c.obey-came.result _ _ (search rules) c.obey-came.ensures.0;
+  came_within = came_wider c.obey-came.result _ _ (search rules) c.obey-came.ensures.within;
   ready = c.requires.ready;
 }

@@ -8,6 +8,6 @@ step-requires g c = record {
   store_is = search rules;
   out_is = search rules;
   line_is = search rules;
-  came_within = came_wider c.obey-came.result _ _ (search rules) c.obey-came.ensures.0;
+  came_within = came_wider c.obey-came.result _ _ (search rules) c.obey-came.ensures.within;
   possible = c.requires.possible;
 }
