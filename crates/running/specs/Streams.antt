@@ -1,7 +1,7 @@
 -- What an order does to the bytes that a reader has left and that a writer holds, where these are known.
 use Rattle.std.specs.Prelude.{ℕ, ◌<◌, ◌≤◌, List, length, take}
 use Rattle.std.specs.Io.KnownBytes.{Keeps, Appends, Consumes, IsAtEnd}
-use Rattle.core.specs.declared.option.Option.{Option}
+use Rattle.std.specs.declared.option.Option.{Option}
 use Rattle.turns.specs.declared.Came.{Came}
 use Rattle.turns.specs.declared.Came.TheVariants as came
 
