@@ -6,8 +6,9 @@ pub mod padded;
 pub mod planlist;
 pub mod unpack;
 
-ghost use Rattle.std.specs.Prelude.{◌≡◌, ◌<◌, take, length, IsTrue, IfOk, OnErr};
+ghost use Rattle.std.specs.Prelude.{◌≡◌, ◌≢◌, ◌<◌, take, length, IsTrue, IfOk, IfErr, OnErr};
 ghost use Rattle.std.specs.Io.{ReadsAtMost, WritesAtMost};
+ghost use Rattle.std.specs.IoError.{error_kind};
 ghost use Rattle.std.specs.Io.KnownBytes.{Appends, Consumes, IsAtEnd, Keeps};
 ghost use Rattle.turns.specs.Text.{line_bytes};
 ghost use Rattle.turns.specs.Orders.{CameWithin, Within};
@@ -40,6 +41,7 @@ fn read_once<R: Read>(from: &mut R, input: &mut [u8]) -> io::Result<usize>
     ensures ok { IfOk result (λ n. Consumes (R.remaining from.old) (R.remaining from.new) (take n input.new)) }
     ensures end { IfOk result (λ n. n ≡ 0 → 0 < length input.old → IsAtEnd (R.remaining from.new)) }
     ensures err { OnErr result (Keeps (R.remaining from.old) (R.remaining from.new)) }
+    ensures again { IfErr result (λ e. error_kind e ≢ ErrorKind.Interrupted) }
 {
     for _ in 0..u64::MAX {
         match from.read(input) {
@@ -51,7 +53,7 @@ fn read_once<R: Read>(from: &mut R, input: &mut [u8]) -> io::Result<usize>
             }
         }
     }
-    Err(io::Error::from(ErrorKind::Interrupted))
+    Err(io::Error::new(ErrorKind::TimedOut, "interrupted each time"))
 }
 
 // One write; an interrupted one is tried again.
@@ -59,6 +61,7 @@ fn write_once<W: Write>(to: &mut W, bytes: &[u8]) -> io::Result<usize>
     ensures within { WritesAtMost result bytes.now }
     ensures ok { IfOk result (λ n. Appends (W.contents to.old) (W.contents to.new) (take n bytes.now)) }
     ensures err { OnErr result (Keeps (W.contents to.old) (W.contents to.new)) }
+    ensures again { IfErr result (λ e. error_kind e ≢ ErrorKind.Interrupted) }
 {
     for _ in 0..u64::MAX {
         match to.write(bytes) {
@@ -70,7 +73,7 @@ fn write_once<W: Write>(to: &mut W, bytes: &[u8]) -> io::Result<usize>
             }
         }
     }
-    Err(io::Error::from(ErrorKind::Interrupted))
+    Err(io::Error::new(ErrorKind::TimedOut, "interrupted each time"))
 }
 
 // Reads until the bytes lent are full, the input ends or a read fails.

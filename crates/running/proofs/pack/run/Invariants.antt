@@ -1,5 +1,3 @@
-use Rattle.packing.proofs.Turning.{ready_as}
-use borrow.Author.Rules.{rules}
 use Rattle.packing.specs.Steps.{Goes}
 use Rattle.running.proofs.pack.run.Given as goal
 

@@ -1,6 +1,4 @@
 use Rattle.packing.proofs.Turning.{ready_as}
-use borrow.Author.Rules.{rules}
-use Rattle.packing.specs.Steps.{Goes}
 use Rattle.running.proofs.padded.run.Goals as goal
 
 pub loop-left-init : goal.loop-left-init

@@ -1,5 +1,3 @@
-use borrow.Author.Rules.{rules}
-use Rattle.listing.specs.Steps.{Goes}
 use Rattle.running.proofs.planlist.run.Goals as goal
 
 pub loop-left-init : goal.loop-left-init

@@ -1,4 +1,3 @@
-use borrow.Author.Rules.{rules}
 use Rattle.listing.specs.Steps.{Goes}
 use Rattle.running.proofs.planlist.run.Given as goal
 

@@ -1,4 +1,3 @@
-use borrow.Author.Rules.{rules}
 use Rattle.unpacking.specs.Steps.{Goes}
 use Rattle.running.proofs.unpack.run.Given as goal
 
