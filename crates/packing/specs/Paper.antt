@@ -6,7 +6,7 @@ use Rattle.packing.specs.declared.input.VersionRead.TheVariants as version
 use Rattle.packing.specs.declared.input.PackHeadRead.{PackHeadRead}
 use Rattle.packing.specs.declared.input.PackHeadRead.TheVariants as head
 use Rattle.packing.specs.declared.input.UnitLength.{UnitLength}
-use Rattle.packing.specs.declared.input.UnitLength.TheVariants as length
+use Rattle.packing.specs.declared.input.UnitLength.TheVariants as stated
 use Rattle.packing.specs.declared.unit.UnitAnswer.{UnitAnswer}
 use Rattle.packing.specs.declared.unit.UnitAnswer.TheVariants as unit
 
@@ -19,9 +19,9 @@ paper_head (head.Head h) = pack.found h
 paper_head head.NoHead = pack.none
 
 abbrev pub paper_length : UnitLength → pack.Length
-paper_length length.End = pack.over
-paper_length (length.Stated n) = pack.stated n
-paper_length length.Cut = pack.cut
+paper_length stated.End = pack.over
+paper_length (stated.Stated n) = pack.stated n
+paper_length stated.Cut = pack.cut
 
 abbrev pub paper_unit : UnitAnswer → pack.Unit'
 paper_unit unit.Cut = pack.cut_short
