@@ -1,4 +1,4 @@
-//! Finds libav1rtp.a, in the folder AV1RTP_LIB or where `rt staticlib av1rtp` writes it, and links it.
+//! Finds libav1rtp.a, in the folder AV1RTP_LIB or where `rust/archive` puts it on x86-64, and links it.
 use std::path::PathBuf;
 
 fn main() {
