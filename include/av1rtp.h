@@ -2,7 +2,7 @@
  *
  * Every function here is proved (crates/av1rtp): it returns on all input, reaches outside no lent buffer, and what it answers and
  * writes equals the definitions that its contract cites. docs/RULES.md has the rules; R1, C5 and the like are its names.
- * Build the library by `rt staticlib av1rtp` and link target/staticlib/libav1rtp.a; it needs nothing but the C library.
+ * Build the library by `rust/archive` and link libav1rtp.a of the folder that it prints; it needs nothing but the C library.
  *
  * WHAT THE CALLER MUST ENSURE. Nothing can check it here, and the proofs take it for granted:
  *   - A pointer is not NULL, is aligned for its type, and points to as many values as the length after it says, or as the size

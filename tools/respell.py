@@ -4,7 +4,7 @@
 usage: tools/respell.py [FOLDER]          FOLDER holds crates/ (by default the repository); files are rewritten in place
        tools/respell.py --list [FOLDER]   prints what it would turn
 
-It was run once, right after /opt/rattle/port/port.py. Names that specs/ and proofs/ declare are turned; functions, fields, variants and
+It was run once, right after the kit's port.py. Names that specs/ and proofs/ declare are turned; functions, fields, variants and
 parameters of src/ keep theirs, as do names that Rattle makes. A name that begins with a capital is a type or a fact and stays. A lemma
 whose name falls together with a definition's or a function's ends in _lem.
 """
