@@ -46,7 +46,6 @@ SettledBy T same c =
 abbrev pub Settled : (T : Ended) → Contract T → Type 2
 Settled T = SettledBy T (λ κs r s. r ≡ s)
 
--- a part of what is lent, as an answer: the same elements at the same place. The name by which the logic follows a reference, which
--- nothing that runs can see, is left open
+-- a part of what is lent, as an answer: the same elements at the same place, which is all that there is to a shared reference
 abbrev pub SamePart : {X : Type 0} → Bor X → Bor X → Type 0
 SamePart r s = (r.now ≡ s.now) × (r.ref_ptr ≡ s.ref_ptr)
