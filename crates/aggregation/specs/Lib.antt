@@ -1,4 +1,3 @@
 pub mod New
 pub mod Header
 pub mod Inside
-pub mod Paper

@@ -4,7 +4,7 @@
 mod sequence;
 
 ghost use Rattle.std.specs.Prelude.{◌≡◌, ℕ, ◌*◌, false, cond, ◌&&◌, List, get_or, eqb};
-ghost use Rattle.base.specs.Answers.{given, refused};
+ghost use Rattle.base.specs.Answers.{given, refused, paper};
 ghost use Rattle.obu.specs.Records.{no_obu, obus_in};
 ghost use Rattle.obu.specs.declared.Obu.{Obu as ObuRecord};
 ghost use Rattle.packetizer.specs.Records.{no_packet, packets_in};
@@ -12,7 +12,6 @@ ghost use Rattle.aggregation.specs.New.{new_sequence};
 ghost use Rattle.aggregation.specs.Header.{last_obu, z_of, y_of, w_of, byte_of, lacking, any_outside, header_of, Headed};
 ghost use Rattle.aggregation.specs.Inside.{seen_after};
 ghost use Rattle.aggregation.specs.declared.Seen.TheVariants.{Nothing};
-ghost use Rattle.aggregation.specs.Paper.{paper};
 
 use base::Refusal;
 use obu::Obu;
@@ -31,13 +30,6 @@ enum Seen {
     New,
     // an OBU outside the unit
     Outside,
-}
-
-// The answer of the header call.
-#[derive(Clone, Copy)]
-pub enum HeaderAnswer {
-    Header(u8),
-    Refused(Refusal),
 }
 
 // Z: the first element goes on with an OBU that began before.
@@ -90,17 +82,17 @@ fn header_bits(p: PacketMetadata, size: u32, new: bool) -> u8
 }
 
 // The same as an answer for packet k, by what all OBUs say of N.
-fn rule(p: PacketMetadata, size: u32, seen: Seen, k: usize) -> HeaderAnswer
+fn rule(p: PacketMetadata, size: u32, seen: Seen, k: usize) -> Result<u8, Refusal>
     ensures { (unit : List ℕ) (obus : List ObuRecord) → size ≡ (get_or obus (last_obu p) no_obu).size
         → seen ≡ seen_after unit Nothing obus → paper result ≡ cond (any_outside unit obus) (refused 11 0) (given (byte_of unit obus p k)) }
 {
     if sequence::found_outside(seen) {
-        return HeaderAnswer::Refused(Refusal::NoUsablePacket);
+        return Err(Refusal::NoUsablePacket);
     }
     if k == 0 {
-        return HeaderAnswer::Header(header_bits(p, size, sequence::found_new(seen)));
+        return Ok(header_bits(p, size, sequence::found_new(seen)));
     }
-    HeaderAnswer::Header(header_bits(p, size, false))
+    Ok(header_bits(p, size, false))
 }
 
 // Which of n OBUs the last element belongs to, or n if the record has no element, OBUs beyond them, or an end beyond L17.
@@ -122,17 +114,17 @@ fn last_of(p: PacketMetadata, n: usize) -> usize
 }
 
 // From flat lists of any numbers.
-pub fn get_aggregation_header(unit: &[u8], obus: &[u32], plan: &[u32], k: usize) -> HeaderAnswer
+pub fn get_aggregation_header(unit: &[u8], obus: &[u32], plan: &[u32], k: usize) -> Result<u8, Refusal>
     ensures { paper result ≡ header_of unit.now (obus_in obus.now) (packets_in plan.now) k }
 {
     if plan.len() / packetizer::PLAN_NUMBERS <= k {
-        return HeaderAnswer::Refused(Refusal::NoUsablePacket);
+        return Err(Refusal::NoUsablePacket);
     }
     let p = packetizer::packet_at(plan, k);
     let n = obus.len() / obu::OBU_NUMBERS;
     let i = last_of(p, n);
     if n <= i {
-        return HeaderAnswer::Refused(Refusal::NoUsablePacket);
+        return Err(Refusal::NoUsablePacket);
     }
     let last = obu::obu_at(obus, i);
     rule(p, last.size, sequence::seen_in(unit, obus), k)
@@ -164,16 +156,16 @@ pub fn header_byte(obus: &[u32], plan: &[u32], k: usize, new: bool) -> u8
 }
 
 // From slices of records, by the same rule.
-pub fn header_of(unit: &[u8], obus: &[Obu], packets: &[PacketMetadata], k: usize) -> HeaderAnswer
+pub fn header_of(unit: &[u8], obus: &[Obu], packets: &[PacketMetadata], k: usize) -> Result<u8, Refusal>
     ensures { paper result ≡ header_of unit.now obus.now packets.now k }
 {
     if packets.len() <= k {
-        return HeaderAnswer::Refused(Refusal::NoUsablePacket);
+        return Err(Refusal::NoUsablePacket);
     }
     let p = packets[k];
     let i = last_of(p, obus.len());
     if obus.len() <= i {
-        return HeaderAnswer::Refused(Refusal::NoUsablePacket);
+        return Err(Refusal::NoUsablePacket);
     }
     let mut seen = Seen::Nothing;
     let mut j: usize = 0;

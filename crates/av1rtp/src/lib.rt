@@ -18,15 +18,8 @@ ghost use Rattle.train.specs.Train.{head_of, counted_width, front_of, record_fie
 ghost use Rattle.av1rtp.specs.Words.{number_in, words_in};
 ghost use Rattle.av1rtp.specs.Calls.{one, listed_words, PlanCrosses, WriteCrosses, field_words, element_count, state_in, state_words, Crosses, head_words, record_answer, record_words};
 
-use aggregation::HeaderAnswer;
-use base::Refusal;
-use element::Walk;
-use leb128::SizeRead;
-use obu::ObuList;
-use packetizer::PlanAnswer;
-use payloader::WriteAnswer;
-use receiver::{Receipt, State};
-use train::{HeadRead, RecordRead};
+use base::{Refusal, RefusedAt};
+use receiver::State;
 
 // What was asked for: success, and up to three numbers.
 fn give(answer: &mut [usize; 4], a: usize, b: usize, c: usize) -> u32
@@ -37,11 +30,11 @@ fn give(answer: &mut [usize; 4], a: usize, b: usize, c: usize) -> u32
 }
 
 // A refusal: its number, and the offset that it carries.
-fn refuse(answer: &mut [usize; 4], refusal: Refusal, at: usize) -> u32
-    ensures { (result ≡ number_of refusal) × (answer.new ≡ at ∷ 0 ∷ 0 ∷ 0 ∷ []) }
+fn refuse(answer: &mut [usize; 4], refused: RefusedAt) -> u32
+    ensures { (result ≡ number_of refused.refusal) × (answer.new ≡ refused.at ∷ 0 ∷ 0 ∷ 0 ∷ []) }
 {
-    *answer = [at, 0, 0, 0];
-    base::number(refusal)
+    *answer = [refused.at, 0, 0, 0];
+    base::number(refused.refusal)
 }
 
 // The OBU list of a unit. Words: offset, OBUs, padded size fields.
@@ -52,8 +45,8 @@ pub extern "C" fn av1rtp_list(unit: &[u8], obus: &mut [u32], answer: &mut [usize
         × (obus.new ≡ list_after unit.now obus.old) }
 {
     match obu::parse_obus(unit, obus) {
-        ObuList::Listed(listed) => give(answer, listed.obus, listed.padded, 0),
-        ObuList::Refused { refusal, at } => refuse(answer, refusal, at),
+        Ok(listed) => give(answer, listed.obus, listed.padded, 0),
+        Err(refused) => refuse(answer, refused),
     }
 }
 
@@ -70,8 +63,8 @@ pub extern "C" fn av1rtp_plan(
         result answer.new obus.new plan.new }
 {
     match packetizer::plan_unit(mtu, unit, obus, plan) {
-        PlanAnswer::Planned(planned) => give(answer, planned.obus, planned.packets, 0),
-        PlanAnswer::Refused { refusal, at } => refuse(answer, refusal, at),
+        Ok(planned) => give(answer, planned.obus, planned.packets, 0),
+        Err(refused) => refuse(answer, refused),
     }
 }
 
@@ -90,8 +83,8 @@ pub extern "C" fn av1rtp_write_packet(
         result answer.new out.new }
 {
     match payloader::write_packet(mtu, unit, obus, plan, k, out) {
-        WriteAnswer::Written(written) => give(answer, written.bytes, 0, 0),
-        WriteAnswer::Refused { refusal, at } => refuse(answer, refusal, at),
+        Ok(written) => give(answer, written.bytes, 0, 0),
+        Err(refused) => refuse(answer, refused),
     }
 }
 
@@ -111,8 +104,8 @@ pub extern "C" fn av1rtp_write_packets(
         result answer.new out.new }
 {
     match payloader::write_packets(mtu, unit, obus, plan, first, count, out) {
-        WriteAnswer::Written(written) => give(answer, written.bytes, 0, 0),
-        WriteAnswer::Refused { refusal, at } => refuse(answer, refusal, at),
+        Ok(written) => give(answer, written.bytes, 0, 0),
+        Err(refused) => refuse(answer, refused),
     }
 }
 
@@ -129,8 +122,8 @@ pub extern "C" fn av1rtp_header(
         × (answer.new ≡ words_in one (header_of unit.now (obus_in obus.now) (packets_in plan.now) k)) }
 {
     match aggregation::get_aggregation_header(unit, obus, plan, k) {
-        HeaderAnswer::Header(header) => give(answer, header as usize, 0, 0),
-        HeaderAnswer::Refused(refusal) => refuse(answer, refusal, 0),
+        Ok(header) => give(answer, header as usize, 0, 0),
+        Err(refusal) => refuse(answer, refusal.into()),
     }
 }
 
@@ -142,11 +135,11 @@ pub extern "C" fn av1rtp_element(payload: &[u8], k: usize, answer: &mut [usize; 
         ∷ (element_of payload.now k).start ∷ (element_of payload.now k).length ∷ []) }
 {
     match element::walk_elements(payload, k) {
-        Walk::Whole(all) => {
+        Ok(all) => {
             let part = all.kept;
             give(answer, all.elements, part.start, part.length)
         }
-        Walk::Refused { refusal, at: _ } => refuse(answer, refusal, 0),
+        Err(refused) => refuse(answer, refused.refusal.into()),
     }
 }
 
@@ -183,13 +176,13 @@ pub extern "C" fn av1rtp_receive(
 {
     let before = state_in(state[0], state[1], state[2]);
     match receiver::receive(before, number, payload, store, out) {
-        Receipt::Received(received) => {
+        Ok(received) => {
             let after = received.state;
             put_state(state, after);
             let padded = received.padded;
             give(answer, received.bytes, padded.lengths + padded.sizes, 0)
         }
-        Receipt::Refused(refusal) => refuse(answer, refusal, 0),
+        Err(refusal) => refuse(answer, refusal.into()),
     }
 }
 
@@ -199,8 +192,8 @@ pub extern "C" fn av1rtp_train_head(bytes: &[u8], answer: &mut [usize; 4]) -> u3
     ensures { (result ≡ number_in (head_of bytes.now)) × (answer.new ≡ words_in head_words (head_of bytes.now)) }
 {
     match train::read_head(bytes) {
-        HeadRead::Train(head) => give(answer, head.version as usize, head.width, 0),
-        HeadRead::Refused(refusal) => refuse(answer, refusal, 0),
+        Ok(head) => give(answer, head.version as usize, head.width, 0),
+        Err(refusal) => refuse(answer, refusal.into()),
     }
 }
 
@@ -217,9 +210,9 @@ pub extern "C" fn av1rtp_train_record(
         × (answer.new ≡ words_in record_words (record_answer (front_of (counted_width width) at (drop at bytes.now)))) }
 {
     match train::read_record(bytes, width, at) {
-        RecordRead::Found(head) => give(answer, head.number as usize, head.start, head.length),
-        RecordRead::End => give(answer, 0, 0, 0),
-        RecordRead::Refused(refusal) => refuse(answer, refusal, 0),
+        Ok(Some(head)) => give(answer, head.number as usize, head.start, head.length),
+        Ok(None) => give(answer, 0, 0, 0),
+        Err(refusal) => refuse(answer, refusal.into()),
     }
 }
 
@@ -244,12 +237,12 @@ pub extern "C" fn av1rtp_size_field(bytes: &[u8], answer: &mut [usize; 4]) -> u3
         × (answer.new ≡ words_in field_words (size_answer bytes.now)) }
 {
     match leb128::read_leb128(bytes) {
-        SizeRead::Read(field) => give(
+        Ok(field) => give(
             answer,
             field.value as usize,
             field.used,
             field.shortest as usize,
         ),
-        SizeRead::Refused(refusal) => refuse(answer, refusal, 0),
+        Err(refusal) => refuse(answer, refusal.into()),
     }
 }

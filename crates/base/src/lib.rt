@@ -55,6 +55,22 @@ pub enum Refusal {
     DroppedTypeSent,
 }
 
+// A refusal, and the place that it carries.
+#[derive(Clone, Copy)]
+pub struct RefusedAt {
+    pub refusal: Refusal,
+    pub at: usize,
+}
+
+// A refusal that is of no place carries 0.
+impl From<Refusal> for RefusedAt {
+    ghost from_gives = { λ refusal it. it ≡ record { refusal = refusal; at = 0 } };
+
+    fn from(refusal: Refusal) -> RefusedAt {
+        RefusedAt { refusal, at: 0 }
+    }
+}
+
 // The number of a refusal, by the one definition that contracts cite.
 pub fn number(refusal: Refusal) -> u32
     ensures { result ≡ number_of refusal }

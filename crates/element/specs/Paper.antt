@@ -1,22 +1,9 @@
 -- The number and values that the rules have for each answer of the code.
 use Rattle.std.specs.Prelude.{ℕ, ◌+◌, ◌-◌, List, cond, length, get_or, eqb}
-use Rattle.base.specs.Refusals.{number_of}
 use Rattle.base.specs.Answers.{Answer, given, refused}
 use Rattle.element.specs.Elements.{nowhere, padded_at, padded_from}
 use Rattle.element.specs.declared.Part.{Part}
-use Rattle.element.specs.declared.ElementRead.{ElementRead}
-use Rattle.element.specs.declared.ElementRead.TheVariants as read
 use Rattle.element.specs.declared.Walked.{Walked}
-use Rattle.element.specs.declared.Walk.{Walk}
-use Rattle.element.specs.declared.Walk.TheVariants as walk
-
-abbrev pub paper_read : ElementRead → Answer Part
-paper_read (read.Found p) = given p
-paper_read (read.Refused r at) = refused (number_of r) at
-
-abbrev pub paper_walk : Walk → Answer Walked
-paper_walk (walk.Whole w) = given w
-paper_walk (walk.Refused r at) = refused (number_of r) at
 
 -- of these elements: how many there are, element k, the last, and how many length fields are padded
 abbrev pub walked_of : ℕ → List Part → Walked

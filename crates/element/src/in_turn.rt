@@ -2,11 +2,12 @@
 // padded.
 ghost use Rattle.std.specs.Prelude.{◌≡◌, ◌≤◌, ◌<◌, cond, length, drop};
 ghost use Rattle.element.specs.Elements.{payload_limit, counting, padded_at};
-ghost use Rattle.element.specs.Paper.{paper_walk, with_part, walked};
+ghost use Rattle.base.specs.Answers.{paper_at};
+ghost use Rattle.element.specs.Paper.{with_part, walked};
 ghost use Rattle.element.specs.Laws.{Fielded, Countable};
 
-use crate::{ElementRead, Part, UNWALKED, Walk, Walked};
-use base::Refusal;
+use crate::{Part, UNWALKED, Walked};
+use base::{Refusal, RefusedAt};
 
 // This part where told to, else the one kept so far: number by number, so that they stay in registers.
 fn kept_of(here: bool, part: Part, kept: Part) -> Part
@@ -64,67 +65,49 @@ fn with_part(payload: &[u8], all: Walked, k: usize, at: usize, part: Part) -> Wa
 
 // Elements with a length field up to the end of the payload, of which there is one: how many, element k, the last, and how many length
 // fields are padded.
-fn walk_to_end(payload: &[u8], k: usize) -> Walk
+fn walk_to_end(payload: &[u8], k: usize) -> Result<Walked, RefusedAt>
     requires { (1 < length payload.now) × (length payload.now ≤ payload_limit) }
-    ensures { paper_walk result ≡ walked k (counting 0 (drop 1 payload.now)) }
+    ensures { paper_at result ≡ walked k (counting 0 (drop 1 payload.now)) }
 {
     let mut at: usize = 1;
     let mut all = UNWALKED;
     while at < payload.len() {
-        match crate::read_element(payload, at, true) {
-            ElementRead::Refused { refusal, at } => {
-                return Walk::Refused {
-                    refusal: refusal,
-                    at: at,
-                };
-            }
-            ElementRead::Found(part) => {
-                all = with_part(payload, all, k, at, part);
-                at = part.next;
-            }
-        }
+        let part = crate::read_element(payload, at, true)?;
+        all = with_part(payload, all, k, at, part);
+        at = part.next;
     }
-    Walk::Whole(all)
+    Ok(all)
 }
 
 // So many elements, each but the last with a length field: the same of them.
-fn walk_counted(payload: &[u8], w: usize, k: usize) -> Walk
+fn walk_counted(payload: &[u8], w: usize, k: usize) -> Result<Walked, RefusedAt>
     requires { (1 ≤ length payload.now) × (length payload.now ≤ payload_limit) × (1 ≤ w) }
-    ensures { paper_walk result ≡ walked k (counting w (drop 1 payload.now)) }
+    ensures { paper_at result ≡ walked k (counting w (drop 1 payload.now)) }
 {
     let mut at: usize = 1;
     let mut all = UNWALKED;
     while all.elements < w {
-        match crate::read_element(payload, at, all.elements + 1 != w) {
-            ElementRead::Refused { refusal, at } => {
-                return Walk::Refused {
-                    refusal: refusal,
-                    at: at,
-                };
-            }
-            ElementRead::Found(part) => {
-                all = with_part(payload, all, k, at, part);
-                at = part.next;
-            }
-        }
+        let part = crate::read_element(payload, at, all.elements + 1 != w)?;
+        all = with_part(payload, all, k, at, part);
+        at = part.next;
     }
-    Walk::Whole(all)
+    Ok(all)
 }
 
 // The elements after the header, by W.
 // Helper: the payload must be neither empty nor over its limit.
-pub fn walk_by_w(payload: &[u8], w: usize, k: usize) -> Walk
+pub fn walk_by_w(payload: &[u8], w: usize, k: usize) -> Result<Walked, RefusedAt>
     requires { (1 ≤ length payload.now) × (length payload.now ≤ payload_limit) }
-    ensures { paper_walk result ≡ walked k (counting w (drop 1 payload.now)) }
+    ensures { paper_at result ≡ walked k (counting w (drop 1 payload.now)) }
 {
     if w > 0 {
         return walk_counted(payload, w, k);
     }
     if payload.len() == 1 {
-        return Walk::Refused {
+        return Err(RefusedAt {
             refusal: Refusal::ElementBad,
             at: 1,
-        };
+        });
     }
     walk_to_end(payload, k)
 }

@@ -4,14 +4,13 @@
 mod in_turn; // in_turn.rt: from element to element, by W
 
 ghost use Rattle.std.specs.Prelude.{◌≡◌, ◌≤◌, ◌&&◌, length, drop, eqb};
-ghost use Rattle.base.specs.Answers.{given};
+ghost use Rattle.base.specs.Answers.{given, paper_at};
 ghost use Rattle.element.specs.Header.{z_bit, y_bit, w_of, n_bit};
 ghost use Rattle.element.specs.Elements.{payload_limit, element_at, has_field, payload_elements, element_of, bytes_of, place_at};
-ghost use Rattle.element.specs.Paper.{paper_read, paper_walk, walked};
+ghost use Rattle.element.specs.Paper.{walked};
 ghost use Rattle.element.specs.Laws.{Stands};
 
-use base::Refusal;
-use leb128::SizeRead;
+use base::{Refusal, RefusedAt};
 
 // The most bytes of a payload.
 pub const PAYLOAD_LIMIT: usize = 1048576;
@@ -31,13 +30,6 @@ const NOWHERE: Part = Part {
     next: 0,
 };
 
-// What stands at a cursor.
-#[derive(Clone, Copy)]
-pub enum ElementRead {
-    Found(Part),
-    Refused { refusal: Refusal, at: usize },
-}
-
 // All elements: how many there are, the one asked for, and the last; where there is no such one, the empty part at the payload's start.
 // And how many of their length fields are padded.
 #[derive(Clone, Copy)]
@@ -55,13 +47,6 @@ const UNWALKED: Walked = Walked {
     last: NOWHERE,
     padded: 0,
 };
-
-// What going through all elements finds.
-#[derive(Clone, Copy)]
-pub enum Walk {
-    Whole(Walked),
-    Refused { refusal: Refusal, at: usize },
-}
 
 // Z, bit 7 of the header byte.
 pub fn header_z(header: u8) -> bool
@@ -113,52 +98,44 @@ pub fn has_field(w: usize, n: usize) -> bool
 
 // The element at a cursor, with a length field or, without one, all that is left.
 // Helper: the cursor must not be past the end of the payload.
-pub fn read_element(payload: &[u8], at: usize, field: bool) -> ElementRead
+pub fn read_element(payload: &[u8], at: usize, field: bool) -> Result<Part, RefusedAt>
     requires { at ≤ length payload.now }
-    ensures { paper_read result ≡ element_at field at (drop at payload.now) }
+    ensures { paper_at result ≡ element_at field at (drop at payload.now) }
 {
     let left = payload.len() - at;
-    if field {
-        match leb128::read_leb128(&payload[at..]) {
-            SizeRead::Read(size) => {
-                let used = size.used;
-                let length = size.value as usize;
-                if length == 0 {
-                    return ElementRead::Refused {
-                        refusal: Refusal::ElementBad,
-                        at: at,
-                    };
-                }
-                if left - used < length {
-                    return ElementRead::Refused {
-                        refusal: Refusal::ElementBad,
-                        at: at,
-                    };
-                }
-                ElementRead::Found(Part {
-                    start: at + used,
-                    length: length,
-                    next: at + used + length,
-                })
-            }
-            SizeRead::Refused(_) => ElementRead::Refused {
-                refusal: Refusal::ElementLengthBad,
-                at: at,
-            },
-        }
-    } else {
+    let bad = RefusedAt {
+        refusal: Refusal::ElementBad,
+        at,
+    };
+    if !field {
         if left == 0 {
-            return ElementRead::Refused {
-                refusal: Refusal::ElementBad,
-                at: at,
-            };
+            return Err(bad);
         }
-        ElementRead::Found(Part {
+        return Ok(Part {
             start: at,
             length: left,
             next: at + left,
-        })
+        });
     }
+    let Ok(size) = leb128::read_leb128(&payload[at..]) else {
+        return Err(RefusedAt {
+            refusal: Refusal::ElementLengthBad,
+            at,
+        });
+    };
+    let length = size.value as usize;
+    if length == 0 {
+        return Err(bad);
+    }
+    if left - size.used < length {
+        return Err(bad);
+    }
+    let start = at + size.used;
+    Ok(Part {
+        start,
+        length,
+        next: start + length,
+    })
 }
 
 // The same where it is known that there is one: nothing is tested again.
@@ -168,21 +145,17 @@ pub fn part_at(payload: &[u8], at: usize, field: bool) -> Part
     ensures { given result ≡ element_at field at (drop at payload.now) }
 {
     if field {
-        match leb128::read_leb128(&payload[at..]) {
-            SizeRead::Read(size) => {
-                let start = at + size.used;
-                let length = size.value as usize;
-                return Part {
-                    start: start,
-                    length: length,
-                    next: start + length,
-                };
-            }
-            // never
-            SizeRead::Refused(_) => {
-                return NOWHERE;
-            }
-        }
+        // it is read, so this never fails
+        let Ok(size) = leb128::read_leb128(&payload[at..]) else {
+            return NOWHERE;
+        };
+        let start = at + size.used;
+        let length = size.value as usize;
+        return Part {
+            start,
+            length,
+            next: start + length,
+        };
     }
     Part {
         start: at,
@@ -193,35 +166,26 @@ pub fn part_at(payload: &[u8], at: usize, field: bool) -> Part
 
 // All elements of a payload that is neither empty nor over its limit.
 // Helper: it must be neither.
-pub fn walk_within(payload: &[u8], k: usize) -> Walk
+pub fn walk_within(payload: &[u8], k: usize) -> Result<Walked, RefusedAt>
     requires { (1 ≤ length payload.now) × (length payload.now ≤ payload_limit) }
-    ensures { paper_walk result ≡ walked k (payload_elements payload.now) }
+    ensures { paper_at result ≡ walked k (payload_elements payload.now) }
 {
     let header = payload[0];
     if new_with_continuation(header) {
-        return Walk::Refused {
-            refusal: Refusal::NewWithContinuation,
-            at: 0,
-        };
+        return Err(Refusal::NewWithContinuation.into());
     }
     in_turn::walk_by_w(payload, header_w(header), k)
 }
 
 // All elements of a payload, in order: how many, element k, the last, and how many length fields are padded.
-pub fn walk_elements(payload: &[u8], k: usize) -> Walk
-    ensures { paper_walk result ≡ walked k (payload_elements payload.now) }
+pub fn walk_elements(payload: &[u8], k: usize) -> Result<Walked, RefusedAt>
+    ensures { paper_at result ≡ walked k (payload_elements payload.now) }
 {
     if payload.len() == 0 {
-        return Walk::Refused {
-            refusal: Refusal::PayloadLength,
-            at: 0,
-        };
+        return Err(Refusal::PayloadLength.into());
     }
     if payload.len() > PAYLOAD_LIMIT {
-        return Walk::Refused {
-            refusal: Refusal::PayloadLength,
-            at: 0,
-        };
+        return Err(Refusal::PayloadLength.into());
     }
     walk_within(payload, k)
 }
@@ -232,12 +196,12 @@ pub fn element(payload: &[u8], k: usize) -> &[u8]
         × (result.ref_ptr ≡ place_at payload.entry.ref_ptr (element_of payload.now k).start) }
 {
     match walk_elements(payload, k) {
-        Walk::Whole(all) => {
+        Ok(all) => {
             let kept = all.kept;
             let start = kept.start;
             let end = start + kept.length;
             &payload[start..end]
         }
-        Walk::Refused { refusal: _, at: _ } => &payload[0..0],
+        Err(_) => &payload[0..0],
     }
 }

@@ -3,15 +3,16 @@
 
 ghost use Rattle.std.specs.Prelude.{◌≡◌, ◌+◌, ◌-◌, ◌≤◌, ◌<◌, true, cond, length, take, drop};
 ghost use Rattle.base.specs.Lists.{replaced};
+ghost use Rattle.base.specs.Answers.{paper};
 ghost use Rattle.obu.specs.Front.{start_of, span_of};
 ghost use Rattle.obu.specs.Wire.{whole_of, framed, wire};
 ghost use Rattle.obu.specs.Paper.{paper_head, paper_whole};
 ghost use Rattle.handing.specs.Handing.{wires};
 ghost use Rattle.handing.specs.Inside.{There, both, counted_one, counted_all, RoomAt, put_at, put_first, between, Finishing};
-ghost use Rattle.handing.specs.Paper.{paper_handed, fragment_of};
+ghost use Rattle.handing.specs.Paper.{fragment_of};
 
 use base::Refusal;
-use obu::{Head, ObuRead};
+use obu::Head;
 
 // The bytes that decide an OBU's front, and the most bytes of an open fragment.
 const HEAD_BYTES: usize = 10;
@@ -37,13 +38,6 @@ const NOTHING: Handed = Handed {
     bytes: 0,
     padded: 0,
 };
-
-// That, or the refusal of one of them.
-#[derive(Clone, Copy)]
-pub enum HandedOut {
-    Bytes(Handed),
-    Refused(Refusal),
-}
 
 // Copies `size` bytes of one slice, from `start` on, into another, from `at` on.
 // Helper: `from` must have these bytes, and `to` the space for them.
@@ -73,7 +67,7 @@ fn copy_across(to: &mut [u8], at: usize, store: &[u8], payload: &[u8], f: Fragme
 }
 
 // The OBU of exactly a fragment's bytes, judged by the first of them, which are put together in an array.
-fn judge_across(store: &[u8], payload: &[u8], f: Fragment) -> ObuRead
+fn judge_across(store: &[u8], payload: &[u8], f: Fragment) -> Result<Head, Refusal>
     requires { There store.now payload.now f }
     ensures { paper_whole result ≡ whole_of (fragment_of store.now payload.now f) }
 {
@@ -90,7 +84,7 @@ fn judge_across(store: &[u8], payload: &[u8], f: Fragment) -> ObuRead
 }
 
 // The OBU of exactly a fragment's bytes: those of the payload alone are judged where they stand.
-fn judge(store: &[u8], payload: &[u8], f: Fragment) -> ObuRead
+fn judge(store: &[u8], payload: &[u8], f: Fragment) -> Result<Head, Refusal>
     requires { There store.now payload.now f }
     ensures { paper_whole result ≡ whole_of (fragment_of store.now payload.now f) }
 {
@@ -136,31 +130,21 @@ fn finish_obu(
     out: &mut [u8],
     at: usize,
     write: bool,
-) -> HandedOut
+) -> Result<Handed, Refusal>
     requires there { There store.now payload.now f }
     requires room_at { write ≡ true → RoomAt (length out.old) at (wire (fragment_of store.now payload.now f)) }
-    ensures { (paper_handed result ≡ counted_one (fragment_of store.now payload.now f))
+    ensures { (paper result ≡ counted_one (fragment_of store.now payload.now f))
         × (out.new ≡ cond write (put_at out.old at (wire (fragment_of store.now payload.now f))) out.old) }
 {
-    match judge(store, payload, f) {
-        ObuRead::Refused(refusal) => HandedOut::Refused(refusal),
-        ObuRead::Found(head) => {
-            let field = leb128::leb128_size(head.payload as u32);
-            let padded = (field < head.field) as usize;
-            if obu::should_ignore_obu_type(obu::obu_type(head.header)) {
-                return HandedOut::Bytes(Handed {
-                    bytes: 0,
-                    padded: padded,
-                });
-            }
-            put_obu(out, at, head, store, payload, f, write);
-            let bytes = obu::header_size(head.header) + field + head.payload;
-            HandedOut::Bytes(Handed {
-                bytes: bytes,
-                padded: padded,
-            })
-        }
+    let head = judge(store, payload, f)?;
+    let field = leb128::leb128_size(head.payload as u32);
+    let padded = (field < head.field) as usize;
+    if obu::should_ignore_obu_type(obu::obu_type(head.header)) {
+        return Ok(Handed { bytes: 0, padded });
     }
+    put_obu(out, at, head, store, payload, f, write);
+    let bytes = obu::header_size(head.header) + field + head.payload;
+    Ok(Handed { bytes, padded })
 }
 
 // What goes out for both.
@@ -184,10 +168,10 @@ fn hand_out(
     joined: usize,
     out: &mut [u8],
     write: bool,
-) -> HandedOut
+) -> Result<Handed, Refusal>
     requires finishing { Finishing payload.now cursor from to store.now joined }
     requires room_at { write ≡ true → RoomAt (length out.old) 0 (wires (between store.now joined payload.now from to)) }
-    ensures { (paper_handed result ≡ counted_all (between store.now joined payload.now from to))
+    ensures { (paper result ≡ counted_all (between store.now joined payload.now from to))
         × (out.new ≡ cond write (put_first out.old (wires (between store.now joined payload.now from to))) out.old) }
 {
     let w = element::header_w(payload[0]);
@@ -202,19 +186,13 @@ fn hand_out(
             start: part.start,
             size: part.length,
         };
-        match finish_obu(store, payload, f, out, sum.bytes, write) {
-            HandedOut::Refused(refusal) => {
-                return HandedOut::Refused(refusal);
-            }
-            HandedOut::Bytes(one) => {
-                sum = together(sum, one);
-                kept = 0;
-                i = i + 1;
-                at = part.next;
-            }
-        }
+        let one = finish_obu(store, payload, f, out, sum.bytes, write)?;
+        sum = together(sum, one);
+        kept = 0;
+        i += 1;
+        at = part.next;
     }
-    HandedOut::Bytes(sum)
+    Ok(sum)
 }
 
 // How many bytes go out for them, and their padded size fields. Most packets of a long OBU finish none.
@@ -228,13 +206,13 @@ pub fn count_out(
     store: &[u8],
     joined: usize,
     out: &mut [u8],
-) -> HandedOut
+) -> Result<Handed, Refusal>
     requires { Finishing payload.now cursor from to store.now joined }
-    ensures { (paper_handed result ≡ counted_all (between store.now joined payload.now from to))
+    ensures { (paper result ≡ counted_all (between store.now joined payload.now from to))
         × (out.new ≡ out.old) }
 {
     if to <= from {
-        return HandedOut::Bytes(NOTHING);
+        return Ok(NOTHING);
     }
     hand_out(payload, cursor, from, to, store, joined, out, false)
 }
@@ -257,5 +235,6 @@ pub fn write_out(
     if to <= from {
         return;
     }
-    hand_out(payload, cursor, from, to, store, joined, out, true);
+    // it was counted, so there is no refusal
+    let _ = hand_out(payload, cursor, from, to, store, joined, out, true);
 }

@@ -4,7 +4,8 @@
 ghost use Rattle.std.specs.Prelude.{◌≡◌, ◌+◌, ◌≤◌, ◌<◌, length};
 ghost use Rattle.base.specs.Lists.{replaced};
 ghost use Rattle.leb128.specs.Field.{field_in, encode, longest_field, is_padded, size_answer};
-ghost use Rattle.leb128.specs.Paper.{paper, paper_tail, of_two};
+ghost use Rattle.base.specs.Answers.{paper};
+ghost use Rattle.leb128.specs.Paper.{paper_tail, of_two};
 
 use base::Refusal;
 
@@ -21,46 +22,37 @@ pub struct SizeField {
     pub shortest: bool,
 }
 
-// What reading a size field finds.
-#[derive(Clone, Copy)]
-pub enum SizeRead {
-    Read(SizeField),
-    Refused(Refusal),
-}
-
 // The same before the test of the value.
 #[derive(Clone, Copy)]
-enum Tail {
-    Read { value: u64, used: usize },
-    Refused(Refusal),
+struct Tail {
+    value: u64,
+    used: usize,
 }
 
 // The rest of a size field of which `left` bytes may still come.
-fn read_tail(bytes: &[u8], left: usize) -> Tail
+fn read_tail(bytes: &[u8], left: usize) -> Result<Tail, Refusal>
     requires { left ≤ longest_field }
     ensures { paper_tail result ≡ field_in left bytes.now }
 {
     if left == 0 {
-        return Tail::Refused(Refusal::SizeTooLarge);
+        return Err(Refusal::SizeTooLarge);
     }
     if bytes.len() == 0 {
-        return Tail::Refused(Refusal::SizeUnfinished);
+        return Err(Refusal::SizeUnfinished);
     }
     let first = bytes[0];
     let low = (first & 127) as u64;
     if first < 128 {
-        return Tail::Read {
+        return Ok(Tail {
             value: low,
             used: 1,
-        };
+        });
     }
-    match read_tail(&bytes[1..], left - 1) {
-        Tail::Read { value, used } => Tail::Read {
-            value: low + 128 * value,
-            used: used + 1,
-        },
-        Tail::Refused(refusal) => Tail::Refused(refusal),
-    }
+    let tail = read_tail(&bytes[1..], left - 1)?;
+    Ok(Tail {
+        value: low + 128 * tail.value,
+        used: tail.used + 1,
+    })
 }
 
 // The size field of these two bytes, the first with its top bit set and the second without.
@@ -78,12 +70,12 @@ fn of_two(first: u8, second: u8) -> SizeField
 }
 
 // Reads the size field at the front of `bytes`: one of one byte or two, as most are, at once.
-pub fn read_leb128(bytes: &[u8]) -> SizeRead
+pub fn read_leb128(bytes: &[u8]) -> Result<SizeField, Refusal>
     ensures { paper result ≡ size_answer bytes.now }
 {
     if bytes.len() > 0 {
         if bytes[0] < 128 {
-            return SizeRead::Read(SizeField {
+            return Ok(SizeField {
                 value: bytes[0] as u32,
                 used: 1,
                 shortest: true,
@@ -91,25 +83,20 @@ pub fn read_leb128(bytes: &[u8]) -> SizeRead
         }
         if bytes.len() > 1 {
             if bytes[1] < 128 {
-                return SizeRead::Read(of_two(bytes[0], bytes[1]));
+                return Ok(of_two(bytes[0], bytes[1]));
             }
         }
     }
-    match read_tail(bytes, LONGEST_FIELD) {
-        Tail::Read { value, used } => {
-            if value <= LARGEST_VALUE {
-                let small = value as u32;
-                SizeRead::Read(SizeField {
-                    value: small,
-                    used: used,
-                    shortest: !is_padded(small, used),
-                })
-            } else {
-                SizeRead::Refused(Refusal::SizeTooLarge)
-            }
-        }
-        Tail::Refused(refusal) => SizeRead::Refused(refusal),
+    let tail = read_tail(bytes, LONGEST_FIELD)?;
+    if tail.value > LARGEST_VALUE {
+        return Err(Refusal::SizeTooLarge);
     }
+    let value = tail.value as u32;
+    Ok(SizeField {
+        value,
+        used: tail.used,
+        shortest: !is_padded(value, tail.used),
+    })
 }
 
 // The bytes that the shortest form of `value` takes.

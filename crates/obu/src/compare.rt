@@ -3,22 +3,15 @@ ghost use Rattle.std.specs.Prelude.{◌≡◌, ◌*◌, ◌≤◌, ◌&&◌, len
 ghost use Rattle.base.specs.Lists.{is_front};
 ghost use Rattle.obu.specs.Records.{obu_numbers, numbers_of};
 ghost use Rattle.obu.specs.Unit.{unit_limit, same_list};
-ghost use Rattle.obu.specs.Paper.{paper_same};
+ghost use Rattle.base.specs.Answers.{paper_at};
 
-use crate::{OBU_NUMBERS, Obu, ObuRead, UNIT_LIMIT};
-use base::Refusal;
+use crate::{OBU_NUMBERS, Obu, UNIT_LIMIT};
+use base::{Refusal, RefusedAt};
 
 // How many OBUs of a unit are kept.
 #[derive(Clone, Copy)]
 pub struct Kept {
     pub obus: usize,
-}
-
-// The answer of the comparing call.
-#[derive(Clone, Copy)]
-pub enum SameList {
-    Same(Kept),
-    Refused { refusal: Refusal, at: usize },
 }
 
 // Whether record `n` of a list has the numbers of an OBU, and the records before it were the same.
@@ -40,22 +33,19 @@ fn same_obu(obus: &[u32], n: usize, o: Obu, same: bool) -> bool
 }
 
 // Goes through a unit to its end, and compares the record of each kept OBU with that of the list.
-fn compare_obus(unit: &[u8], obus: &[u32]) -> SameList
+fn compare_obus(unit: &[u8], obus: &[u32]) -> Result<Kept, RefusedAt>
     requires { length unit.now ≤ unit_limit }
-    ensures { paper_same result ≡ same_list unit.now obus.now }
+    ensures { paper_at result ≡ same_list unit.now obus.now }
 {
     let mut at: usize = 0;
     let mut n: usize = 0;
     let mut same = true;
     while at < unit.len() {
         match crate::read_obu(&unit[at..], unit.len() - at) {
-            ObuRead::Refused(refusal) => {
-                return SameList::Refused {
-                    refusal: refusal,
-                    at: at,
-                };
+            Err(refusal) => {
+                return Err(RefusedAt { refusal, at });
             }
-            ObuRead::Found(head) => {
+            Ok(head) => {
                 let next = at + crate::span(head);
                 if crate::should_ignore_obu_type(crate::obu_type(head.header)) {
                     at = next;
@@ -68,23 +58,18 @@ fn compare_obus(unit: &[u8], obus: &[u32]) -> SameList
         }
     }
     if same {
-        return SameList::Same(Kept { obus: n });
-    }
-    SameList::Refused {
-        refusal: Refusal::ListsDiffer,
-        at: 0,
+        Ok(Kept { obus: n })
+    } else {
+        Err(Refusal::ListsDiffer.into())
     }
 }
 
 // Whether a lent flat list begins with the records of a unit's kept OBUs: how many there are, or 31.
-pub fn same_list(unit: &[u8], obus: &[u32]) -> SameList
-    ensures { paper_same result ≡ same_list unit.now obus.now }
+pub fn same_list(unit: &[u8], obus: &[u32]) -> Result<Kept, RefusedAt>
+    ensures { paper_at result ≡ same_list unit.now obus.now }
 {
     if unit.len() > UNIT_LIMIT {
-        return SameList::Refused {
-            refusal: Refusal::UnitOverLimit,
-            at: 0,
-        };
+        return Err(Refusal::UnitOverLimit.into());
     }
     compare_obus(unit, obus)
 }

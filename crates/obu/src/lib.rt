@@ -11,11 +11,11 @@ ghost use Rattle.obu.specs.Front.{head_bytes, span_of, front_of};
 ghost use Rattle.obu.specs.Records.{obu_numbers, obus_in, no_obu};
 ghost use Rattle.obu.specs.Unit.{unit_limit, placed, list_answer, list_after};
 ghost use Rattle.obu.specs.Wire.{extension_bytes, whole_of};
-ghost use Rattle.obu.specs.Paper.{paper_head, paper_read, paper_whole, paper_list};
+ghost use Rattle.base.specs.Answers.{paper_at};
+ghost use Rattle.obu.specs.Paper.{paper_head, paper_read, paper_whole};
 
-use base::Refusal;
-pub use compare::{Kept, SameList, same_list};
-use leb128::SizeRead;
+use base::{Refusal, RefusedAt};
+pub use compare::{Kept, same_list};
 pub use unit::count_obus;
 
 // The most bytes of a unit, and the numbers of a record in a flat list.
@@ -42,25 +42,11 @@ pub struct Head {
     pub payload: usize,
 }
 
-// What stands at the front of some bytes.
-#[derive(Clone, Copy)]
-pub enum ObuRead {
-    Found(Head),
-    Refused(Refusal),
-}
-
 // What a unit's list holds: how many OBUs are kept, and how many size fields of all its OBUs are padded.
 #[derive(Clone, Copy)]
 pub struct Listed {
     pub obus: usize,
     pub padded: usize,
-}
-
-// The answer of the list call.
-#[derive(Clone, Copy)]
-pub enum ObuList {
-    Listed(Listed),
-    Refused { refusal: Refusal, at: usize },
 }
 
 // Bits 3 to 6 of the header byte.
@@ -146,7 +132,7 @@ fn extension_byte(bytes: &[u8], header: u8) -> u8
 }
 
 // The OBU at the front of `total` bytes, the first of which are `bytes`: ten are enough.
-fn read_obu(bytes: &[u8], total: usize) -> ObuRead
+fn read_obu(bytes: &[u8], total: usize) -> Result<Head, Refusal>
     requires { (1 ≤ total) × (min head_bytes total ≤ length bytes.now) × (length bytes.now ≤ total) }
     ensures { (all : List ℕ) → take head_bytes all ≡ take head_bytes bytes.now → length all ≡ total
         → paper_read result ≡ front_of all }
@@ -154,39 +140,32 @@ fn read_obu(bytes: &[u8], total: usize) -> ObuRead
     let header = bytes[0];
     let after = header_size(header);
     if total < after {
-        return ObuRead::Refused(Refusal::ExtensionMissing);
+        return Err(Refusal::ExtensionMissing);
     }
     let extension = extension_byte(bytes, header);
     let left = total - after;
-    if obu_has_size(header) {
-        if left == 0 {
-            return ObuRead::Refused(Refusal::SizeMissing);
-        }
-        match leb128::read_leb128(&bytes[after..]) {
-            SizeRead::Read(size) => {
-                let field = size.used;
-                let payload = size.value as usize;
-                if payload <= left - field {
-                    ObuRead::Found(Head {
-                        header: header,
-                        extension: extension,
-                        field: field,
-                        payload: payload,
-                    })
-                } else {
-                    ObuRead::Refused(Refusal::PayloadPastUnit)
-                }
-            }
-            SizeRead::Refused(refusal) => ObuRead::Refused(refusal),
-        }
-    } else {
-        ObuRead::Found(Head {
-            header: header,
-            extension: extension,
+    if !obu_has_size(header) {
+        return Ok(Head {
+            header,
+            extension,
             field: 0,
             payload: left,
-        })
+        });
     }
+    if left == 0 {
+        return Err(Refusal::SizeMissing);
+    }
+    let size = leb128::read_leb128(&bytes[after..])?;
+    let payload = size.value as usize;
+    if payload > left - size.used {
+        return Err(Refusal::PayloadPastUnit);
+    }
+    Ok(Head {
+        header,
+        extension,
+        field: size.used,
+        payload,
+    })
 }
 
 // How many bytes an OBU takes in all.
@@ -199,20 +178,14 @@ fn span(head: Head) -> usize
 
 // An OBU of exactly `total` bytes, the first of which are `bytes`.
 // Helper: `total` must be 1 or more, and `bytes` the first of them: ten at least, or all.
-pub fn whole_obu(bytes: &[u8], total: usize) -> ObuRead
+pub fn whole_obu(bytes: &[u8], total: usize) -> Result<Head, Refusal>
     requires { (1 ≤ total) × (min head_bytes total ≤ length bytes.now) × (length bytes.now ≤ total) }
     ensures { (all : List ℕ) → take head_bytes all ≡ take head_bytes bytes.now → length all ≡ total
         → paper_whole result ≡ whole_of all }
 {
     match read_obu(bytes, total) {
-        ObuRead::Found(head) => {
-            if span(head) == total {
-                ObuRead::Found(head)
-            } else {
-                ObuRead::Refused(Refusal::ObuBroken)
-            }
-        }
-        ObuRead::Refused(_) => ObuRead::Refused(Refusal::ObuBroken),
+        Ok(head) if span(head) == total => Ok(head),
+        _ => Err(Refusal::ObuBroken),
     }
 }
 
@@ -248,24 +221,14 @@ pub fn obu_at(obus: &[u32], i: usize) -> Obu
 }
 
 // The kept OBUs of a unit, as records in a lent flat list.
-pub fn parse_obus(unit: &[u8], obus: &mut [u32]) -> ObuList
-    ensures { (paper_list result ≡ list_answer unit.now obus.old)
+pub fn parse_obus(unit: &[u8], obus: &mut [u32]) -> Result<Listed, RefusedAt>
+    ensures { (paper_at result ≡ list_answer unit.now obus.old)
         × (obus.new ≡ list_after unit.now obus.old) }
 {
     if unit.len() > UNIT_LIMIT {
-        return ObuList::Refused {
-            refusal: Refusal::UnitOverLimit,
-            at: 0,
-        };
+        return Err(Refusal::UnitOverLimit.into());
     }
-    match count_obus(unit, obus.len() / OBU_NUMBERS) {
-        ObuList::Listed(listed) => {
-            unit::store_obus(unit, obus);
-            ObuList::Listed(listed)
-        }
-        ObuList::Refused { refusal, at } => ObuList::Refused {
-            refusal: refusal,
-            at: at,
-        },
-    }
+    let listed = count_obus(unit, obus.len() / OBU_NUMBERS)?;
+    unit::store_obus(unit, obus);
+    Ok(listed)
 }

@@ -5,10 +5,10 @@ ghost use Rattle.base.specs.Lists.{front};
 ghost use Rattle.leb128.specs.Field.{is_padded};
 ghost use Rattle.obu.specs.Records.{obu_numbers, numbers_of, flat};
 ghost use Rattle.obu.specs.Unit.{unit_limit, ended, scan_of, kept_of, obus_of, listed};
-ghost use Rattle.obu.specs.Paper.{paper_list};
+ghost use Rattle.base.specs.Answers.{paper_at};
 
-use crate::{Head, Listed, OBU_NUMBERS, Obu, ObuList, ObuRead};
-use base::Refusal;
+use crate::{Head, Listed, OBU_NUMBERS, Obu};
+use base::{Refusal, RefusedAt};
 
 // How many padded size fields an OBU has: one or none.
 fn padded_sizes(head: Head) -> usize
@@ -41,32 +41,29 @@ fn put_obu(obus: &mut [u32], n: usize, o: Obu)
 
 // Goes through a unit, with space for so many records: counts the kept OBUs and the padded size fields.
 // Helper: the unit must be within its limit.
-pub fn count_obus(unit: &[u8], space: usize) -> ObuList
+pub fn count_obus(unit: &[u8], space: usize) -> Result<Listed, RefusedAt>
     requires { length unit.now ≤ unit_limit }
-    ensures { paper_list result ≡ listed space unit.now }
+    ensures { paper_at result ≡ listed space unit.now }
 {
     let mut at: usize = 0;
     let mut left = space; // how many records there is still space for
     let mut padded: usize = 0;
     while at < unit.len() {
         match crate::read_obu(&unit[at..], unit.len() - at) {
-            ObuRead::Refused(refusal) => {
-                return ObuList::Refused {
-                    refusal: refusal,
-                    at: at,
-                };
+            Err(refusal) => {
+                return Err(RefusedAt { refusal, at });
             }
-            ObuRead::Found(head) => {
+            Ok(head) => {
                 let next = at + crate::span(head);
                 padded = padded + padded_sizes(head);
                 if crate::should_ignore_obu_type(crate::obu_type(head.header)) {
                     at = next;
                 } else {
                     if left == 0 {
-                        return ObuList::Refused {
+                        return Err(RefusedAt {
                             refusal: Refusal::ObuListFull,
-                            at: at,
-                        };
+                            at,
+                        });
                     }
                     left = left - 1;
                     at = next;
@@ -74,9 +71,9 @@ pub fn count_obus(unit: &[u8], space: usize) -> ObuList
             }
         }
     }
-    ObuList::Listed(Listed {
+    Ok(Listed {
         obus: space - left,
-        padded: padded,
+        padded,
     })
 }
 
@@ -92,10 +89,10 @@ pub fn store_obus(unit: &[u8], obus: &mut [u32])
     while at < unit.len() {
         match crate::read_obu(&unit[at..], unit.len() - at) {
             // never, since the unit was counted before
-            ObuRead::Refused(_) => {
+            Err(_) => {
                 return;
             }
-            ObuRead::Found(head) => {
+            Ok(head) => {
                 let next = at + crate::span(head);
                 if crate::should_ignore_obu_type(crate::obu_type(head.header)) {
                     at = next;

@@ -5,14 +5,14 @@ ghost use Rattle.obu.specs.Unit.{unit_limit};
 ghost use Rattle.obu.specs.Records.{obus_in};
 ghost use Rattle.packetizer.specs.Plan.{plan_from, plan_of};
 ghost use Rattle.packetizer.specs.Call.{sizes, same_packets};
-ghost use Rattle.packetizer.specs.Paper.{paper};
+ghost use Rattle.base.specs.Answers.{paper_at};
 ghost use Rattle.packetizer.specs.Records.{plan_numbers, record_numbers};
 ghost use Rattle.packetizer.specs.Cursor.{to_come, Walkable, Starts, Fillable, Begins, Comparable};
 
 use crate::{
-    AGGREGATION_HEADER_SIZE, LEAST_MTU, PLAN_NUMBERS, PacketMetadata, PlanAnswer, Planned, packet,
+    AGGREGATION_HEADER_SIZE, LEAST_MTU, PLAN_NUMBERS, PacketMetadata, Planned, packet,
 };
-use base::Refusal;
+use base::{Refusal, RefusedAt};
 
 // A packet, and the byte of the OBU that the next one starts with.
 #[derive(Clone, Copy)]
@@ -121,14 +121,14 @@ fn same_record(plan: &[u32], n: usize, p: PacketMetadata) -> bool
 
 // Whether a plan begins with the records of these OBUs: how many there are, or 31.
 // Helper: the mtu must be within its limit, each OBU have a byte, and all of them together fit a unit.
-pub fn same_packets(obus: &[u32], mtu: usize, plan: &[u32]) -> PlanAnswer
+pub fn same_packets(obus: &[u32], mtu: usize, plan: &[u32]) -> Result<Planned, RefusedAt>
     requires { Comparable mtu (sizes (obus_in obus.now)) }
-    ensures { paper result ≡ same_packets (plan_of mtu (sizes (obus_in obus.now))) plan.now
+    ensures { paper_at result ≡ same_packets (plan_of mtu (sizes (obus_in obus.now))) plan.now
         (length (obus_in obus.now)) }
 {
     let count = obus.len() / obu::OBU_NUMBERS;
     if mtu < LEAST_MTU {
-        return PlanAnswer::Planned(Planned {
+        return Ok(Planned {
             obus: count,
             packets: 0,
         });
@@ -146,13 +146,10 @@ pub fn same_packets(obus: &[u32], mtu: usize, plan: &[u32]) -> PlanAnswer
             start = packet::start_after(next.packet);
             n += 1;
         } else {
-            return PlanAnswer::Refused {
-                refusal: Refusal::ListsDiffer,
-                at: 0,
-            };
+            return Err(Refusal::ListsDiffer.into());
         }
     }
-    PlanAnswer::Planned(Planned {
+    Ok(Planned {
         obus: count,
         packets: n,
     })

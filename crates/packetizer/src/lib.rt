@@ -9,12 +9,12 @@ ghost use Rattle.obu.specs.Unit.{unit_limit};
 ghost use Rattle.obu.specs.Records.{obus_in};
 ghost use Rattle.packetizer.specs.Plan.{charge_of, spread, insert, place, plan_of};
 ghost use Rattle.packetizer.specs.Call.{sizes, to_plan, leaves, plan_unit, same_plan};
-ghost use Rattle.packetizer.specs.Paper.{paper, recorded};
+ghost use Rattle.base.specs.Answers.{paper_at};
+ghost use Rattle.packetizer.specs.Paper.{recorded};
 ghost use Rattle.packetizer.specs.Inside.{Plannable, Closable, Closed};
 ghost use Rattle.packetizer.specs.Records.{plan_numbers, packets_in, no_packet};
 
-use base::Refusal;
-use obu::{ObuList, SameList};
+use base::{Refusal, RefusedAt};
 
 // The largest mtu, the smallest that gives packets, the numbers of a record in a flat list, and the byte that every payload begins with.
 const MTU_LIMIT: usize = 1048576;
@@ -47,13 +47,6 @@ pub struct PacketMetadata {
 pub struct Planned {
     pub obus: usize,
     pub packets: usize,
-}
-
-// The answer of the plan call.
-#[derive(Clone, Copy)]
-pub enum PlanAnswer {
-    Planned(Planned),
-    Refused { refusal: Refusal, at: usize },
 }
 
 // The current packet, and how many are closed before it.
@@ -206,57 +199,34 @@ fn packetize(obus: &[u32], mtu: usize, plan: &mut [u32], store: bool) -> usize
 }
 
 // The list of a unit's kept OBUs and their plan.
-pub fn plan_unit(mtu: usize, unit: &[u8], obus: &mut [u32], plan: &mut [u32]) -> PlanAnswer
-    ensures { leaves (paper result) obus.new plan.new
+pub fn plan_unit(mtu: usize, unit: &[u8], obus: &mut [u32], plan: &mut [u32]) -> Result<Planned, RefusedAt>
+    ensures { leaves (paper_at result) obus.new plan.new
         ≡ plan_unit (to_plan mtu unit.now obus.old plan.old) }
 {
     if mtu > MTU_LIMIT {
-        return PlanAnswer::Refused {
-            refusal: Refusal::MtuOverLimit,
-            at: 0,
-        };
+        return Err(Refusal::MtuOverLimit.into());
     }
-    match obu::parse_obus(unit, obus) {
-        ObuList::Refused { refusal, at } => PlanAnswer::Refused {
-            refusal: refusal,
-            at: at,
-        },
-        ObuList::Listed(listed) => {
-            let filled = listed.obus * obu::OBU_NUMBERS;
-            let packets = packetize(&obus[..filled], mtu, plan, false);
-            if plan.len() / PLAN_NUMBERS < packets {
-                return PlanAnswer::Refused {
-                    refusal: Refusal::PlanListFull,
-                    at: 0,
-                };
-            }
-            packetize(&obus[..filled], mtu, plan, true);
-            PlanAnswer::Planned(Planned {
-                obus: listed.obus,
-                packets: packets,
-            })
-        }
+    let listed = obu::parse_obus(unit, obus)?;
+    let filled = listed.obus * obu::OBU_NUMBERS;
+    let packets = packetize(&obus[..filled], mtu, plan, false);
+    if plan.len() / PLAN_NUMBERS < packets {
+        return Err(Refusal::PlanListFull.into());
     }
+    packetize(&obus[..filled], mtu, plan, true);
+    Ok(Planned {
+        obus: listed.obus,
+        packets,
+    })
 }
 
 // Whether lent lists begin with the records of a unit's kept OBUs and of their plan: how many there are, or 31.
-pub fn same_plan(mtu: usize, unit: &[u8], obus: &[u32], plan: &[u32]) -> PlanAnswer
-    ensures { paper result ≡ same_plan mtu unit.now obus.now plan.now }
+pub fn same_plan(mtu: usize, unit: &[u8], obus: &[u32], plan: &[u32]) -> Result<Planned, RefusedAt>
+    ensures { paper_at result ≡ same_plan mtu unit.now obus.now plan.now }
 {
     if MTU_LIMIT < mtu {
-        return PlanAnswer::Refused {
-            refusal: Refusal::MtuOverLimit,
-            at: 0,
-        };
+        return Err(Refusal::MtuOverLimit.into());
     }
-    match obu::same_list(unit, obus) {
-        SameList::Refused { refusal, at } => PlanAnswer::Refused {
-            refusal: refusal,
-            at: at,
-        },
-        SameList::Same(kept) => {
-            let own = kept.obus * obu::OBU_NUMBERS;
-            cursor::same_packets(&obus[..own], mtu, plan)
-        }
-    }
+    let kept = obu::same_list(unit, obus)?;
+    let own = kept.obus * obu::OBU_NUMBERS;
+    cursor::same_packets(&obus[..own], mtu, plan)
 }

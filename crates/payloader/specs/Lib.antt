@@ -1,4 +1,3 @@
 pub mod Payload
 pub mod Call
-pub mod Paper
 pub mod Inside

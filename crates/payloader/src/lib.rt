@@ -12,24 +12,16 @@ ghost use Rattle.packetizer.specs.Records.{packets_in};
 ghost use Rattle.packetizer.specs.Laws.{planned_bytes};
 ghost use Rattle.payloader.specs.Payload.{payload_at, payloads_of};
 ghost use Rattle.payloader.specs.Call.{to_write, leaves, write_packet, write_packets};
-ghost use Rattle.payloader.specs.Paper.{paper};
+ghost use Rattle.base.specs.Answers.{paper_at};
 ghost use Rattle.payloader.specs.Inside.{Lent, Writable, Run, Fits};
 
-use base::Refusal;
+use base::{Refusal, RefusedAt};
 use obu::Obu;
-use packetizer::PlanAnswer;
 
 // What was written.
 #[derive(Clone, Copy)]
 pub struct Written {
     pub bytes: usize,
-}
-
-// The answer of the writing calls.
-#[derive(Clone, Copy)]
-pub enum WriteAnswer {
-    Written(Written),
-    Refused { refusal: Refusal, at: usize },
 }
 
 // The difference, or 0.
@@ -181,43 +173,30 @@ pub fn write_packets(
     first: usize,
     count: usize,
     out: &mut [u8],
-) -> WriteAnswer
-    ensures { leaves (paper result) out.new
+) -> Result<Written, RefusedAt>
+    ensures { leaves (paper_at result) out.new
         ≡ write_packets first count (to_write mtu unit.now obus.now plan.now out.old) }
 {
-    match packetizer::same_plan(mtu, unit, obus, plan) {
-        PlanAnswer::Refused { refusal, at } => WriteAnswer::Refused {
-            refusal: refusal,
-            at: at,
-        },
-        PlanAnswer::Planned(planned) => {
-            if beyond(planned.packets, first) < count {
-                return WriteAnswer::Refused {
-                    refusal: Refusal::NoUsablePacket,
-                    at: 0,
-                };
-            }
-            let listed = planned.obus * obu::OBU_NUMBERS;
-            let recorded = planned.packets * packetizer::PLAN_NUMBERS;
-            let bytes = run_bytes(&plan[..recorded], first, count);
-            if out.len() < bytes {
-                return WriteAnswer::Refused {
-                    refusal: Refusal::NoRoomForPayloads,
-                    at: 0,
-                };
-            }
-            put_packets(
-                mtu,
-                unit,
-                &obus[..listed],
-                &plan[..recorded],
-                first,
-                count,
-                out,
-            );
-            WriteAnswer::Written(Written { bytes: bytes })
-        }
+    let planned = packetizer::same_plan(mtu, unit, obus, plan)?;
+    if beyond(planned.packets, first) < count {
+        return Err(Refusal::NoUsablePacket.into());
     }
+    let listed = planned.obus * obu::OBU_NUMBERS;
+    let recorded = planned.packets * packetizer::PLAN_NUMBERS;
+    let bytes = run_bytes(&plan[..recorded], first, count);
+    if out.len() < bytes {
+        return Err(Refusal::NoRoomForPayloads.into());
+    }
+    put_packets(
+        mtu,
+        unit,
+        &obus[..listed],
+        &plan[..recorded],
+        first,
+        count,
+        out,
+    );
+    Ok(Written { bytes })
 }
 
 // Writes packet k of a unit by its list and plan.
@@ -228,8 +207,8 @@ pub fn write_packet(
     plan: &[u32],
     k: usize,
     out: &mut [u8],
-) -> WriteAnswer
-    ensures { leaves (paper result) out.new
+) -> Result<Written, RefusedAt>
+    ensures { leaves (paper_at result) out.new
         ≡ write_packet k (to_write mtu unit.now obus.now plan.now out.old) }
 {
     write_packets(mtu, unit, obus, plan, k, 1, out)

@@ -2,4 +2,3 @@ pub mod Packet
 pub mod Joining
 pub mod Call
 pub mod Inside
-pub mod Paper

@@ -5,11 +5,11 @@ ghost use Rattle.std.specs.Prelude.{◌≡◌, ◌≤◌, if◌then◌else◌, n
 ghost use Rattle.receiver.specs.Joining.{distance, is_ahead, is_in_step, label};
 ghost use Rattle.receiver.specs.Call.{too_long, inputs, leaves, received};
 ghost use Rattle.receiver.specs.Inside.{kept_bytes, thrown, finished_end, left_open, Opened};
-ghost use Rattle.receiver.specs.Paper.{paper};
+ghost use Rattle.base.specs.Answers.{paper};
 
 use base::Refusal;
-use element::{Walk, Walked};
-use handing::{Fragment, HandedOut};
+use element::Walked;
+use handing::Fragment;
 
 // The furthest that a packet can be ahead.
 const FURTHEST_AHEAD: u16 = 32767;
@@ -45,13 +45,6 @@ pub struct Received {
     pub padded: Padded,
     pub fragment_lost: bool,
     pub element_lost: bool,
-}
-
-// The answer of the receive call.
-#[derive(Clone, Copy)]
-pub enum Receipt {
-    Received(Received),
-    Refused(Refusal),
 }
 
 // The forward distance, modulo 65,536.
@@ -170,7 +163,7 @@ fn take_packet(
     all: Walked,
     store: &mut [u8],
     out: &mut [u8],
-) -> Receipt
+) -> Result<Received, Refusal>
     requires { Opened (inputs state number payload.now store.old out.old) all }
     ensures { leaves (paper result) store.new out.new ≡ received (inputs state number payload.now store.old out.old) }
 {
@@ -182,37 +175,33 @@ fn take_packet(
     let first = all.kept;
     let cursor = first_cursor(from, first.next);
     let to = finished_end(y, all.elements);
-    match handing::count_out(payload, cursor, from, to, store, joined, out) {
-        HandedOut::Refused(refusal) => Receipt::Refused(refusal),
-        HandedOut::Bytes(handed) => {
-            let bytes = handed.bytes;
-            let left = left_open(y, from, all, joined);
-            let size = left.kept + left.size;
-            if too_long(size, store.len()) {
-                return Receipt::Refused(Refusal::FragmentTooLong);
-            }
-            if bytes > out.len() {
-                return Receipt::Refused(Refusal::NoRoomForObus);
-            }
-            handing::write_out(payload, cursor, from, to, store, joined, out);
-            handing::copy(store, left.kept, payload, left.start, left.size);
-            Receipt::Received(Received {
-                state: State {
-                    begun: true,
-                    last: number,
-                    open: size,
-                },
-                bytes: bytes,
-                padded: Padded {
-                    lengths: all.padded,
-                    sizes: handed.padded,
-                },
-                // joined is all that was open, or nothing
-                fragment_lost: joined < state.open,
-                element_lost: from > 0,
-            })
-        }
+    let handed = handing::count_out(payload, cursor, from, to, store, joined, out)?;
+    let bytes = handed.bytes;
+    let left = left_open(y, from, all, joined);
+    let size = left.kept + left.size;
+    if too_long(size, store.len()) {
+        return Err(Refusal::FragmentTooLong);
     }
+    if bytes > out.len() {
+        return Err(Refusal::NoRoomForObus);
+    }
+    handing::write_out(payload, cursor, from, to, store, joined, out);
+    handing::copy(store, left.kept, payload, left.start, left.size);
+    Ok(Received {
+        state: State {
+            begun: true,
+            last: number,
+            open: size,
+        },
+        bytes,
+        padded: Padded {
+            lengths: all.padded,
+            sizes: handed.padded,
+        },
+        // joined is all that was open, or nothing
+        fragment_lost: joined < state.open,
+        element_lost: from > 0,
+    })
 }
 
 // Takes one packet.
@@ -222,24 +211,23 @@ pub fn receive(
     payload: &[u8],
     store: &mut [u8],
     out: &mut [u8],
-) -> Receipt
+) -> Result<Received, Refusal>
     ensures { leaves (paper result) store.new out.new ≡ received (inputs state number payload.now store.old out.old) }
 {
     if too_long(state.open, store.len()) {
-        return Receipt::Refused(Refusal::StateImpossible);
+        return Err(Refusal::StateImpossible);
     }
     if payload.len() == 0 {
-        return Receipt::Refused(Refusal::PayloadLength);
+        return Err(Refusal::PayloadLength);
     }
     if payload.len() > element::PAYLOAD_LIMIT {
-        return Receipt::Refused(Refusal::PayloadLength);
+        return Err(Refusal::PayloadLength);
     }
-    if is_ahead(state.begun, state.last, number) {
-        match element::walk_within(payload, 0) {
-            Walk::Whole(all) => take_packet(state, number, payload, all, store, out),
-            Walk::Refused { refusal, at: _ } => Receipt::Refused(refusal),
-        }
-    } else {
-        Receipt::Refused(Refusal::NotAhead)
+    if !is_ahead(state.begun, state.last, number) {
+        return Err(Refusal::NotAhead);
+    }
+    match element::walk_within(payload, 0) {
+        Ok(all) => take_packet(state, number, payload, all, store, out),
+        Err(bad) => Err(bad.refusal),
     }
 }

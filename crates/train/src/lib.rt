@@ -3,8 +3,9 @@
 
 ghost use Rattle.std.specs.Prelude.{◌≡◌, ◌+◌, ◌≤◌, length, drop};
 ghost use Rattle.base.specs.Lists.{front, Put};
+ghost use Rattle.base.specs.Answers.{paper};
 ghost use Rattle.train.specs.Train.{head_for, counted_width, number_width, record_fields, head_of, fields_of, front_of};
-ghost use Rattle.train.specs.Paper.{paper_head, paper_fields, paper_record};
+ghost use Rattle.train.specs.Paper.{paper_fields, paper_record};
 ghost use Rattle.train.specs.Laws.{Writable};
 
 use base::Refusal;
@@ -36,24 +37,11 @@ pub struct TrainHead {
     pub width: usize,
 }
 
-#[derive(Clone, Copy)]
-pub enum HeadRead {
-    Train(TrainHead),
-    Refused(Refusal),
-}
-
 // What stands before a payload: the packet's number, and how many bytes the payload has.
 #[derive(Clone, Copy)]
 pub struct RecordFields {
     pub number: u16,
     pub length: usize,
-}
-
-#[derive(Clone, Copy)]
-pub enum FieldsRead {
-    Fields(RecordFields),
-    End,
-    Refused(Refusal),
 }
 
 // A record: its number, and where its payload starts and how long it is.
@@ -64,34 +52,26 @@ pub struct RecordHead {
     pub length: usize,
 }
 
-#[derive(Clone, Copy)]
-pub enum RecordRead {
-    Found(RecordHead),
-    End,
-    Refused(Refusal),
-}
+// The heads of the two versions.
+const SHORT_HEAD: TrainHead = TrainHead {
+    version: SHORT_VERSION,
+    width: SHORT_WIDTH,
+};
+
+const LONG_HEAD: TrainHead = TrainHead {
+    version: LONG_VERSION,
+    width: LONG_WIDTH,
+};
 
 // The head of a file.
-pub fn read_head(bytes: &[u8]) -> HeadRead
-    ensures { paper_head result ≡ head_of bytes.now }
+pub fn read_head(bytes: &[u8]) -> Result<TrainHead, Refusal>
+    ensures { paper result ≡ head_of bytes.now }
 {
-    if bytes.len() == 0 {
-        return HeadRead::Refused(Refusal::TrainVersion);
+    match bytes.first() {
+        Some(&SHORT_VERSION) => Ok(SHORT_HEAD),
+        Some(&LONG_VERSION) => Ok(LONG_HEAD),
+        _ => Err(Refusal::TrainVersion),
     }
-    let version = bytes[0];
-    if version == SHORT_VERSION {
-        return HeadRead::Train(TrainHead {
-            version: version,
-            width: SHORT_WIDTH,
-        });
-    }
-    if version == LONG_VERSION {
-        return HeadRead::Train(TrainHead {
-            version: version,
-            width: LONG_WIDTH,
-        });
-    }
-    HeadRead::Refused(Refusal::TrainVersion)
 }
 
 // The head of a train whose payloads have at most so many bytes.
@@ -124,53 +104,49 @@ fn counted_width(width: usize) -> usize
 
 // What stands before a payload, with a length field of this width, at the front of some bytes, or what there is of it. Any width but 4
 // counts as 2.
-pub fn read_fields(bytes: &[u8], width: usize) -> FieldsRead
+pub fn read_fields(bytes: &[u8], width: usize) -> Result<Option<RecordFields>, Refusal>
     ensures { paper_fields result ≡ fields_of (counted_width width) bytes.now }
 {
     let counted = counted_width(width);
     if bytes.len() == 0 {
-        return FieldsRead::End;
+        return Ok(None);
     }
     if bytes.len() < counted {
-        return FieldsRead::Refused(Refusal::TrainCut);
+        return Err(Refusal::TrainCut);
     }
     let stated = number_at(bytes, 0, counted);
     if stated < LEAST_STATED {
-        return FieldsRead::Refused(Refusal::RecordTooShort);
+        return Err(Refusal::RecordTooShort);
     }
     if bytes.len() < counted + NUMBER_WIDTH {
-        return FieldsRead::Refused(Refusal::TrainCut);
+        return Err(Refusal::TrainCut);
     }
     let number = number_at(bytes, counted, NUMBER_WIDTH);
-    FieldsRead::Fields(RecordFields {
+    Ok(Some(RecordFields {
         number: number as u16,
         length: stated - NUMBER_WIDTH,
-    })
+    }))
 }
 
 // The record that begins at `at`, in a train with length fields of this width. Any width but 4 counts as 2.
-pub fn read_record(bytes: &[u8], width: usize, at: usize) -> RecordRead
+pub fn read_record(bytes: &[u8], width: usize, at: usize) -> Result<Option<RecordHead>, Refusal>
     ensures { paper_record result ≡ front_of (counted_width width) at (drop at bytes.now) }
 {
     if bytes.len() <= at {
-        return RecordRead::End;
+        return Ok(None);
     }
-    match read_fields(&bytes[at..], width) {
-        FieldsRead::End => RecordRead::End,
-        FieldsRead::Refused(refusal) => RecordRead::Refused(refusal),
-        FieldsRead::Fields(fields) => {
-            let start = at + counted_width(width) + NUMBER_WIDTH;
-            if bytes.len() - start < fields.length {
-                RecordRead::Refused(Refusal::TrainCut)
-            } else {
-                RecordRead::Found(RecordHead {
-                    number: fields.number,
-                    start: start,
-                    length: fields.length,
-                })
-            }
-        }
+    let Some(fields) = read_fields(&bytes[at..], width)? else {
+        return Ok(None);
+    };
+    let start = at + counted_width(width) + NUMBER_WIDTH;
+    if bytes.len() - start < fields.length {
+        return Err(Refusal::TrainCut);
     }
+    Ok(Some(RecordHead {
+        number: fields.number,
+        start,
+        length: fields.length,
+    }))
 }
 
 // Writes a length field of this width and a number at the cursor `at`, and returns the cursor after them.
