@@ -186,7 +186,7 @@ fn take_packet(
         return Err(Refusal::NoRoomForObus);
     }
     handing::write_out(payload, cursor, from, to, store, joined, out);
-    handing::copy(store, left.kept, payload, left.start, left.size);
+    base::copy_bytes(payload, left.start, left.size, store, left.kept);
     Ok(Received {
         state: State {
             begun: true,

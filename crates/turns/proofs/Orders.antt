@@ -1,8 +1,8 @@
 -- What came is within what was asked for. Assumes nothing.
 use Rattle.std.proofs.Common.{◌≡◌, ℕ, ◌≤◌, List, length, take, sym, arith, length-take-le}
 use Rattle.turns.specs.Orders.{CameWithin}
-use Rattle.turns.specs.declared.Came.{Came}
-use Rattle.turns.specs.declared.Came.TheVariants as came
+
+use Rattle.std.specs.Prelude.{Ok, Err}
 
 pub came_most : (c : Came) (n most : ℕ) → c ≡ came.Read n → CameWithin c most → n ≤ most
 came_most c n most e h = rw e at h

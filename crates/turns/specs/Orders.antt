@@ -1,12 +1,12 @@
 -- What a step's order asks of the program, and what comes of it.
-use Rattle.std.specs.Prelude.{◌≡◌, ℕ, ◌+◌, ◌%◌, ◌^◌, ◌≤◌, Bool, true, false, List, [], length, take}
+use Rattle.std.specs.Prelude.{◌≡◌, ℕ, ◌+◌, ◌%◌, ◌^◌, ◌≤◌, Bool, true, false, List, [], length, take, Result, Ok, Err}
 use Rattle.base.specs.Lists.{front}
 use Rattle.turns.specs.Text.{line_bytes, line_text}
 use Rattle.turns.specs.declared.Order.{Order}
 use Rattle.turns.specs.declared.Subject.{Subject}
 use Rattle.turns.specs.declared.Word.{Word}
-use Rattle.turns.specs.declared.Came.{Came}
-use Rattle.turns.specs.declared.Came.TheVariants as came
+use Rattle.turns.specs.declared.Failure.{Failure}
+use Rattle.turns.specs.declared.Failure.TheVariants as failure
 
 -- the number of what comes after the k-th, in 64 bits
 abbrev pub next_count : ℕ → ℕ
@@ -62,6 +62,10 @@ module _ {Place : Type 0} where
 
 -- ---- what comes of it
 
+-- how many bytes were read, or what failed
+abbrev pub Came : Type 0
+Came = Result ℕ Failure
+
 -- what arrives at the next step
 pub data Arrival : Type 0 where
   bytes : List ℕ → Arrival
@@ -70,12 +74,11 @@ pub data Arrival : Type 0 where
 
 -- where the input's first bytes are those that were read
 abbrev pub arrival : Came → List ℕ → Arrival
-arrival (came.Read n) input = bytes (take n input)
-arrival came.ReadFailed input = read_failed
-arrival came.WriteFailed input = write_failed
+arrival (Ok n) input = bytes (take n input)
+arrival (Err failure.Read) input = read_failed
+arrival (Err failure.Write) input = write_failed
 
 -- no more was read than so many bytes
 abbrev pub CameWithin : Came → ℕ → Type 0
-CameWithin (came.Read n) most = n ≤ most
-CameWithin came.ReadFailed most = Unit {0}
-CameWithin came.WriteFailed most = Unit {0}
+CameWithin (Ok n) most = n ≤ most
+CameWithin (Err failed) most = Unit {0}

@@ -17,13 +17,22 @@ pub struct Order {
     pub read: usize,
 }
 
-// What came of it: so many bytes were read, fewer than asked for at the end of the input alone; or a read or a write failed.
+// What the program does now, and where it then stands.
 #[derive(Clone, Copy)]
-pub enum Came {
-    Read(usize),
-    ReadFailed,
-    WriteFailed,
+pub struct Turn<P> {
+    pub place: P,
+    pub order: Order,
 }
+
+// What failed: a read, or a write of the output.
+#[derive(Clone, Copy)]
+pub enum Failure {
+    Read,
+    Write,
+}
+
+// What came of it: how many bytes were read, fewer than asked for at the end of the input alone; or what failed.
+pub type Came = Result<usize, Failure>;
 
 // What a line is of, and what it says; a refusal is given by its number.
 #[derive(Clone, Copy)]
@@ -122,8 +131,7 @@ pub fn put_labelled(words: &[u8], n: u64, line: &mut [u8], at: usize) -> usize
 }
 
 // What the line is of, at its front.
-fn put_subject(subject: Subject, line: &mut [u8]) -> usize
-    requires { length line.old ≡ line_bytes }
+fn put_subject(subject: Subject, line: &mut [u8; LINE_BYTES]) -> usize
     ensures { Put line.old line.new 0 result (subject_text subject) }
 {
     match subject {
@@ -160,8 +168,7 @@ fn put_word(word: Word, line: &mut [u8], at: usize) -> usize
 }
 
 // A whole line at the front of the bytes lent, and how many it has.
-fn put_line(subject: Subject, word: Word, line: &mut [u8]) -> usize
-    requires { length line.old ≡ line_bytes }
+fn put_line(subject: Subject, word: Word, line: &mut [u8; LINE_BYTES]) -> usize
     ensures { (result ≡ length (line_text subject word)) × (line.new ≡ front (line_text subject word) line.old) }
 {
     let colon = put_subject(subject, line);
@@ -171,9 +178,7 @@ fn put_line(subject: Subject, word: Word, line: &mut [u8]) -> usize
 }
 
 // A line is said, nothing is written, and so many bytes are read.
-// Helper: `line` must have exactly LINE_BYTES bytes.
-pub fn say(subject: Subject, word: Word, read: usize, line: &mut [u8]) -> Order
-    requires { length line.old ≡ line_bytes }
+pub fn say(subject: Subject, word: Word, read: usize, line: &mut [u8; LINE_BYTES]) -> Order
     ensures { (result ≡ record { more = true; write = 0; say = length (line_text subject word); read = read })
         × (line.new ≡ front (line_text subject word) line.old) }
 {
