@@ -1,14 +1,19 @@
 -- Answers: number and values tell the cases of each apart.
+use Rattle.std.specs.Prelude.{ℕ}
+use Rattle.base.specs.Answers.{paper, paper_at}
 use Rattle.base.specs.Refusals.{number_of}
-use Rattle.leb128.specs.Paper as leb128
+use Rattle.leb128.specs.declared.SizeField.{SizeField}
 use Rattle.obu.specs.Paper as obu
-use Rattle.packetizer.specs.Paper as packetizer
-use Rattle.aggregation.specs.Paper as aggregation
-use Rattle.payloader.specs.Paper as payloader
-use Rattle.element.specs.Paper as element
-use Rattle.handing.specs.Paper as handing
-use Rattle.receiver.specs.Paper as receiver
+use Rattle.obu.specs.declared.Listed.{Listed}
+use Rattle.obu.specs.declared.compare.Kept.{Kept}
+use Rattle.packetizer.specs.declared.Planned.{Planned}
+use Rattle.payloader.specs.declared.Written.{Written}
+use Rattle.element.specs.declared.Part.{Part}
+use Rattle.element.specs.declared.Walked.{Walked}
+use Rattle.handing.specs.declared.Handed.{Handed}
+use Rattle.receiver.specs.declared.Received.{Received}
 use Rattle.train.specs.Paper as train
+use Rattle.train.specs.declared.TrainHead.{TrainHead}
 use Rattle.base.proofs.Refusals as base
 use Rattle.settled.proofs.Answers as answers
 use Rattle.claims.specs.Answers.{TellsApart}
@@ -16,8 +21,8 @@ use Rattle.claims.specs.Answers.{TellsApart}
 pub refusal : TellsApart number_of
 refusal = base.number_one
 
-pub size_read : TellsApart leb128.paper
-size_read = answers.size_one
+pub size_read : TellsApart (paper {SizeField})
+size_read = answers.answer_one
 
 pub obu_read : TellsApart obu.paper_read
 obu_read = answers.read_one
@@ -25,35 +30,35 @@ obu_read = answers.read_one
 pub whole_obu_lem : TellsApart obu.paper_whole
 whole_obu_lem = answers.whole_one
 
-pub obu_list : TellsApart obu.paper_list
-obu_list = answers.list_one
+pub obu_list : TellsApart (paper_at {Listed})
+obu_list = answers.placed_one
 
-pub same_list_lem : TellsApart obu.paper_same
-same_list_lem = answers.same_one
+pub same_list_lem : TellsApart (paper_at {Kept})
+same_list_lem = answers.placed_one
 
-pub plan_answer_lem : TellsApart packetizer.paper
-plan_answer_lem = answers.plan_one
+pub plan_answer_lem : TellsApart (paper_at {Planned})
+plan_answer_lem = answers.placed_one
 
-pub header_answer : TellsApart aggregation.paper
-header_answer = answers.header_one
+pub header_answer : TellsApart (paper {ℕ})
+header_answer = answers.answer_one
 
-pub write_answer : TellsApart payloader.paper
-write_answer = answers.write_one
+pub write_answer : TellsApart (paper_at {Written})
+write_answer = answers.placed_one
 
-pub element_read : TellsApart element.paper_read
-element_read = answers.part_one
+pub element_read : TellsApart (paper_at {Part})
+element_read = answers.placed_one
 
-pub walk : TellsApart element.paper_walk
-walk = answers.walk_one
+pub walk : TellsApart (paper_at {Walked})
+walk = answers.placed_one
 
-pub handed_out_lem : TellsApart handing.paper_handed
-handed_out_lem = answers.handed_one
+pub handed_out_lem : TellsApart (paper {Handed})
+handed_out_lem = answers.answer_one
 
-pub receipt : TellsApart receiver.paper
-receipt = answers.receipt_one
+pub receipt : TellsApart (paper {Received})
+receipt = answers.answer_one
 
-pub head_read : TellsApart train.paper_head
-head_read = answers.head_one
+pub head_read : TellsApart (paper {TrainHead})
+head_read = answers.answer_one
 
 pub fields_read : TellsApart train.paper_fields
 fields_read = answers.fields_one

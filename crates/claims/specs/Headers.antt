@@ -1,13 +1,13 @@
 -- The aggregation header of a packet, bit by bit (H1 to H5, H8).
-use Rattle.std.specs.Prelude.{◌≡◌, ℕ, ◌+◌, ◌/◌, ◌%◌, List, cond, ◌&&◌, get_or, ltb, eqb}
+use Rattle.std.specs.Prelude.{◌≡◌, ℕ, ◌+◌, ◌/◌, ◌%◌, List, Result, cond, ◌&&◌, get_or, ltb, eqb}
+use Rattle.base.specs.Answers.{paper}
+use Rattle.base.specs.declared.Refusal.{Refusal}
 use Rattle.obu.specs.Records.{flat, no_obu, obus_in}
 use Rattle.obu.specs.declared.Obu.{Obu}
 use Rattle.packetizer.specs.Records.{flat_plan, packets_in}
 use Rattle.packetizer.specs.declared.PacketMetadata.{PacketMetadata}
 use Rattle.aggregation.specs.New.{new_sequence}
 use Rattle.aggregation.specs.Header.{last_obu, last_start, w_of, byte_of, header_of}
-use Rattle.aggregation.specs.Paper.{paper}
-use Rattle.aggregation.specs.declared.HeaderAnswer.{HeaderAnswer}
 
 -- H2: Z, where the first element goes on with an OBU
 abbrev pub ByteZ : Type 0
@@ -43,5 +43,5 @@ Alike =
 
 abbrev pub SameHeader : Type 0
 SameHeader =
-    (a b : HeaderAnswer) (unit : List ℕ) (os : List Obu) (ps : List PacketMetadata) (k : ℕ)
+    (a b : Result ℕ Refusal) (unit : List ℕ) (os : List Obu) (ps : List PacketMetadata) (k : ℕ)
     → paper a ≡ header_of unit (obus_in (flat os)) (packets_in (flat_plan ps)) k → paper b ≡ header_of unit os ps k → a ≡ b
