@@ -6,6 +6,7 @@ use native.Mathlib.Numerals.{add-one}
 use native.Mathlib.Omega.{arith}
 use mathlib.Core.Bool.{Bool, true, false, cond}
 use mathlib.Core.List.{List, [], ◌∷◌, ◌++◌, append-nil, append_assoc, map, flat_map}
+use borrow.Rule.Slice.PartMut.{put_mid}
 use lib.ListN.{length, get_or, take, drop, set, length-append, length-take, length-drop}
 use lib.Seq.{take-nil, take_all, take-suc, take-add, length-take-le, get_or-drop, take_at, drop-append-add, drop-drop, sets, sets-eq}
 use lib.Dec.{ltb}
@@ -48,6 +49,10 @@ module _ {A : Type 0} where
   sets_append l j (x ∷ a) b =
       sets_append (set l j x) (suc j) a b
       ∙ ap (λ (k : ℕ). sets (sets (set l j x) (suc j) a) k b) (suc-add j (length a) ∙ sym (add-suc j (length a)))
+
+  -- the k elements from `at` on written over in one step are stores of the new ones
+  pub part_put : (l new vs : List A) (at k : ℕ) → new ≡ vs → k ≡ length vs → at + length vs ≤ length l → put_mid at k l new ≡ sets l at vs
+  part_put l new vs at k e n h = rw (e, n, drop-drop (length vs) at l) (sym (append_assoc (take at l) vs (drop (at + length vs) l)) ∙ sym (sets-eq vs l at h))
 
   -- a turn of the loop that copies
   pub copy_more : (l s : List A) (at start i : ℕ) (d : A) → start + i < length s
