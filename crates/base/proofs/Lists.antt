@@ -1,13 +1,13 @@
 -- Laws of lists that the library has not. Assumes nothing.
 use mathlib.Core.Path.{◌≡◌, refl, sym, ap, ◌∙◌}
-use Prim.Native.Nat.{ℕ, zero, suc, ◌+◌, ◌-◌, ◌*◌, ◌≤◌, ◌<◌}
+use Prim.Native.Nat.{ℕ, zero, suc, ◌+◌, ◌-◌, ◌*◌, ◌≤◌, ◌<◌, min}
 use native.Mathlib.Nat.{zero-add, add-zero, suc-add, add-suc, zero-sub, sub-zero, suc-sub-suc, zero-mul, suc-mul}
 use native.Mathlib.Numerals.{add-one}
 use native.Mathlib.Omega.{arith}
 use mathlib.Core.Bool.{Bool, true, false, cond}
 use mathlib.Core.List.{List, [], ◌∷◌, ◌++◌, append-nil, append_assoc, map, flat_map}
 use borrow.Rule.Slice.PartMut.{put_mid}
-use lib.ListN.{length, get_or, take, drop, set, length-append, length-take, length-drop}
+use lib.ListN.{length, get_or, take, drop, set, length-append, length-take, length-drop, drop_of_length-le}
 use lib.Seq.{take-nil, take_all, take-suc, take-add, length-take-le, get_or-drop, take_at, drop-append-add, drop-drop, sets, sets-eq}
 use lib.Dec.{ltb}
 use borrow.Author.Tests.{ltb-true, ltb-false, lt-ltb, le-ltb}
@@ -18,6 +18,13 @@ module _ {A : Type 0} where
   -- the part that a call is lent from `at` to the end
   pub part_from : (l : List A) (at : ℕ) → at ≤ length l → take (length l - at) (drop at l) ≡ drop at l
   part_from l at h = take_all (length l - at) (drop at l) (simp length-drop (omega arith))
+
+  -- and from a place that may be past the end: none then
+  pub part_min : (l : List A) (at m : ℕ) → m ≡ min at (length l) → take (length l - m) (drop m l) ≡ drop at l
+  part_min l at m e = part_from l m (omega arith) ∙ split_on (ltb at (length l))
+      (λ t. let k : m ≡ at = omega (arith, ltb-true at (length l) t) in rw k)
+      (λ t. let h : length l ≤ at = ltb-false at (length l) t in let k : length l ≤ m = omega arith in
+      drop_of_length-le l k ∙ sym (drop_of_length-le l h))
 
   pub take_drop : (m n : ℕ) (l : List A) → take m (drop n l) ≡ drop n (take (n + m) l)
   take_drop m zero l = rw (zero-add m)

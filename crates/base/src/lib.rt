@@ -132,20 +132,7 @@ pub fn put_numbers(list: &mut [u32], at: usize, numbers: &[u32])
 pub fn same_numbers(list: &[u32], at: usize, numbers: &[u32]) -> bool
     ensures { result ≡ is_front numbers.now (drop at list.now) }
 {
-    if list.len() < at {
-        return numbers.len() == 0;
-    }
-    if list.len() - at < numbers.len() {
-        return false;
-    }
-    let mut i: usize = 0;
-    while i < numbers.len() {
-        if numbers[i] != list[at + i] {
-            return false;
-        }
-        i += 1;
-    }
-    true
+    list[at.min(list.len())..].starts_with(numbers)
 }
 
 // The smaller of two numbers.
