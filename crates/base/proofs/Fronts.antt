@@ -9,6 +9,7 @@ use lib.ListN.{length, get_or, take, drop, length-take}
 use lib.Seq.{drop-cons}
 use lib.Dec.{eqb}
 use borrow.Author.Tests.{eqb-true, eq-eqb, ne_eqb}
+use Rattle.std.specs.List.{starts_with}
 use Rattle.base.specs.Answers.{Answer, given, refused, if_same}
 use Rattle.base.specs.Lists.{is_front}
 use Rattle.base.proofs.Tests.{split_on}
@@ -27,6 +28,13 @@ pub is_front_at : (a l : List ℕ) (i j : ℕ) → i < length a → j < length l
     → is_front (drop i a) (drop j l) ≡ eqb (get_or a i 0) (get_or l j 0) && is_front (drop (i + 1) a) (drop (j + 1) l)
 unfolding is_front
 is_front_at a l i j h k = rw (add-one i, add-one j, drop-cons a i 0 h, drop-cons l j 0 k)
+
+-- as the library's method says it
+pub starts_front : (l a : List ℕ) → starts_with eqb l a ≡ is_front a l
+unfolding is_front
+starts_front l [] = refl
+starts_front [] (x ∷ a) = refl
+starts_front (y ∷ l) (x ∷ a) = ap (λ (t : Bool). eqb x y && t) (starts_front l a)
 
 pub is_front_append : (a b l : List ℕ) → is_front (a ++ b) l ≡ is_front a l && is_front b (drop (length a) l)
 unfolding is_front

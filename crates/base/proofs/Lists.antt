@@ -1,12 +1,13 @@
 -- Laws of lists that the library has not. Assumes nothing.
 use mathlib.Core.Path.{◌≡◌, refl, sym, ap, ◌∙◌}
-use Prim.Native.Nat.{ℕ, zero, suc, ◌+◌, ◌-◌, ◌*◌, ◌≤◌, ◌<◌}
+use Prim.Native.Nat.{ℕ, zero, suc, ◌+◌, ◌-◌, ◌*◌, ◌≤◌, ◌<◌, min}
 use native.Mathlib.Nat.{zero-add, add-zero, suc-add, add-suc, zero-sub, sub-zero, suc-sub-suc, zero-mul, suc-mul}
 use native.Mathlib.Numerals.{add-one}
 use native.Mathlib.Omega.{arith}
 use mathlib.Core.Bool.{Bool, true, false, cond}
 use mathlib.Core.List.{List, [], ◌∷◌, ◌++◌, append-nil, append_assoc, map, flat_map}
-use lib.ListN.{length, get_or, take, drop, set, length-append, length-take, length-drop}
+use borrow.Rule.Slice.PartMut.{put_mid}
+use lib.ListN.{length, get_or, take, drop, set, length-append, length-take, length-drop, drop_of_length-le}
 use lib.Seq.{take-nil, take_all, take-suc, take-add, length-take-le, get_or-drop, take_at, drop-append-add, drop-drop, sets, sets-eq}
 use lib.Dec.{ltb}
 use borrow.Author.Tests.{ltb-true, ltb-false, lt-ltb, le-ltb}
@@ -17,6 +18,13 @@ module _ {A : Type 0} where
   -- the part that a call is lent from `at` to the end
   pub part_from : (l : List A) (at : ℕ) → at ≤ length l → take (length l - at) (drop at l) ≡ drop at l
   part_from l at h = take_all (length l - at) (drop at l) (simp length-drop (omega arith))
+
+  -- and from a place that may be past the end: none then
+  pub part_min : (l : List A) (at m : ℕ) → m ≡ min at (length l) → take (length l - m) (drop m l) ≡ drop at l
+  part_min l at m e = part_from l m (omega arith) ∙ split_on (ltb at (length l))
+      (λ t. let k : m ≡ at = omega (arith, ltb-true at (length l) t) in rw k)
+      (λ t. let h : length l ≤ at = ltb-false at (length l) t in let k : length l ≤ m = omega arith in
+      drop_of_length-le l k ∙ sym (drop_of_length-le l h))
 
   pub take_drop : (m n : ℕ) (l : List A) → take m (drop n l) ≡ drop n (take (n + m) l)
   take_drop m zero l = rw (zero-add m)
@@ -48,6 +56,10 @@ module _ {A : Type 0} where
   sets_append l j (x ∷ a) b =
       sets_append (set l j x) (suc j) a b
       ∙ ap (λ (k : ℕ). sets (sets (set l j x) (suc j) a) k b) (suc-add j (length a) ∙ sym (add-suc j (length a)))
+
+  -- the k elements from `at` on written over in one step are stores of the new ones
+  pub part_put : (l new vs : List A) (at k : ℕ) → new ≡ vs → k ≡ length vs → at + length vs ≤ length l → put_mid at k l new ≡ sets l at vs
+  part_put l new vs at k e n h = rw (e, n, drop-drop (length vs) at l) (sym (append_assoc (take at l) vs (drop (at + length vs) l)) ∙ sym (sets-eq vs l at h))
 
   -- a turn of the loop that copies
   pub copy_more : (l s : List A) (at start i : ℕ) (d : A) → start + i < length s

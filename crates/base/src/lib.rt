@@ -125,77 +125,30 @@ pub fn put_numbers(list: &mut [u32], at: usize, numbers: &[u32])
     requires { at + length numbers.now ≤ length list.old }
     ensures { list.new ≡ sets list.old at numbers.now }
 {
-    let mut i: usize = 0;
-    while i < numbers.len() {
-        list[at + i] = numbers[i];
-        i += 1;
-    }
+    list[at..at + numbers.len()].copy_from_slice(numbers);
 }
 
 // Whether a flat list has these numbers from place `at` on.
 pub fn same_numbers(list: &[u32], at: usize, numbers: &[u32]) -> bool
     ensures { result ≡ is_front numbers.now (drop at list.now) }
 {
-    if list.len() < at {
-        return numbers.len() == 0;
-    }
-    if list.len() - at < numbers.len() {
-        return false;
-    }
-    let mut i: usize = 0;
-    while i < numbers.len() {
-        if numbers[i] != list[at + i] {
-            return false;
-        }
-        i += 1;
-    }
-    true
+    list[at.min(list.len())..].starts_with(numbers)
 }
 
 // The smaller of two numbers.
 pub fn smaller(a: usize, b: usize) -> usize
     ensures { result ≡ min a b }
 {
-    if a < b { a } else { b }
+    a.min(b)
 }
 
-// The bytes of a block: as many as the largest payload has, and a few more.
-const BLOCK: usize = 65536;
-
-// One byte after the other.
-fn copy_each(from: &[u8], start: usize, n: usize, to: &mut [u8], at: usize)
-    requires { (start + n ≤ length from.now) × (at + n ≤ length to.old) }
-    ensures { to.new ≡ sets to.old at (take n (drop start from.now)) }
-{
-    let mut i: usize = 0;
-    while i < n {
-        to[at + i] = from[start + i];
-        i += 1;
-    }
-}
-
-// A block read whole and then written: the compiler sees that the two steps do not meet, and makes one move of memory of them.
-fn copy_block(from: &[u8], start: usize, n: usize, to: &mut [u8], at: usize)
-    requires { (n ≤ 65536) × (start + n ≤ length from.now) × (at + n ≤ length to.old) }
-    ensures { to.new ≡ sets to.old at (take n (drop start from.now)) }
-{
-    let mut held = [0u8; BLOCK];
-    copy_each(from, start, n, &mut held, 0);
-    copy_each(&held, 0, n, to, at);
-}
-
-// Copies the n bytes of `from` at `start` to the cursor `at` of `to`, block after block, and returns the cursor after them.
+// Copies the n bytes of `from` at `start` to the cursor `at` of `to`, and returns the cursor after them.
 // Helper: `from` must have the n bytes, and `to` the space for them.
 pub fn copy_bytes(from: &[u8], start: usize, n: usize, to: &mut [u8], at: usize) -> usize
     requires { (start + n ≤ length from.now) × (at + n ≤ length to.old) }
     ensures { (result ≡ at + n) × (to.new ≡ sets to.old at (take n (drop start from.now))) }
 {
-    let mut i: usize = 0;
-    while i < n {
-        let size = smaller(n - i, BLOCK);
-        copy_block(from, start + i, size, to, at + i);
-        i += size;
-    }
+    to[at..at + n].copy_from_slice(&from[start..start + n]);
     at + n
 }
 
@@ -205,8 +158,7 @@ pub fn put_text(text: &[u8], out: &mut [u8], at: usize) -> usize
     requires { at + length text.now ≤ length out.old }
     ensures { Put out.old out.new at result text.now }
 {
-    copy_each(text, 0, text.len(), out, at);
-    at + text.len()
+    copy_bytes(text, 0, text.len(), out, at)
 }
 
 // The words of the refusals, a line each; line 0 is nobody's.

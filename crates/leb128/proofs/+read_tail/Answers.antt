@@ -1,5 +1,6 @@
 use Rattle.std.proofs.Common.{ℕ, ◌+◌, ◌*◌, sym, ap, ◌∙◌, arith, get_or}
 use lib.Bits.{and_le_r}
+use Rattle.std.proofs.lemmas.Result.{err_from_is_err_and}
 use Rattle.base.specs.Refusals.{number_of}
 use Rattle.leb128.specs.Field.{sized, unreadable, field_in}
 use Rattle.leb128.proofs.Reading.{field_none, field_last, field_after, rest_small}
@@ -20,24 +21,25 @@ returns-then-first-lt128 t c =
 
 pub overflow_mul-result : goal.overflow_mul-result
 overflow_mul-result t c =
-    let h = rest_small c.args.left _ c.in-Read.value c.in-Read.used c.requires c.if-left-eq0.false c.in-Read.ensures in
+    let h = rest_small c.args.left _ c.in_ok-tail.tail.value c.in_ok-tail.tail.used c.requires c.if-left-eq0.false c.in_ok-tail.ensures in
     omega arith
 
 pub overflow_add-result : goal.overflow_add-result
 overflow_add-result t c =
-    let h = rest_small c.args.left _ c.in-Read.value c.in-Read.used c.requires c.if-left-eq0.false c.in-Read.ensures in
+    let h = rest_small c.args.left _ c.in_ok-tail.tail.value c.in_ok-tail.tail.used c.requires c.if-left-eq0.false c.in_ok-tail.ensures in
     omega (arith, and_le_r (get_or c.args.bytes.now 0 0) 127)
 
-pub overflow_add-result-in-Read : goal.overflow_add-result-in-Read
-overflow_add-result-in-Read t c =
-    let h = rest_small c.args.left _ c.in-Read.value c.in-Read.used c.requires c.if-left-eq0.false c.in-Read.ensures in
+pub overflow_add-result-2 : goal.overflow_add-result-2
+overflow_add-result-2 t c =
+    let h = rest_small c.args.left _ c.in_ok-tail.tail.value c.in_ok-tail.tail.used c.requires c.if-left-eq0.false c.in_ok-tail.ensures in
     omega arith
 
-pub returns-in-Read : goal.returns-in-Read
-returns-in-Read t c =
-    ap (λ (x : ℕ). sized (x + 128 * c.in-Read.value) (c.in-Read.used + 1)) (low7 (get_or c.args.bytes.now 0 0))
-    ∙ field_after c.args.left c.args.bytes.now (sized c.in-Read.value c.in-Read.used) c.if-left-eq0.false c.if-bytes-eq0.false c.if-first-lt128.false c.in-Read.ensures
+pub returns : goal.returns
+returns t c =
+    ap (λ (x : ℕ). sized (x + 128 * c.in_ok-tail.tail.value) (c.in_ok-tail.tail.used + 1)) (low7 (get_or c.args.bytes.now 0 0))
+    ∙ field_after c.args.left c.args.bytes.now (sized c.in_ok-tail.tail.value c.in_ok-tail.tail.used) c.if-left-eq0.false c.if-bytes-eq0.false c.if-first-lt128.false c.in_ok-tail.ensures
 
-pub returns-in-Refused : goal.returns-in-Refused
-returns-in-Refused t c =
-    field_after c.args.left c.args.bytes.now (unreadable (number_of c.in-Refused.refusal)) c.if-left-eq0.false c.if-bytes-eq0.false c.if-first-lt128.false c.in-Refused.ensures
+pub returns-in_err-tail : goal.returns-in_err-tail
+returns-in_err-tail t c =
+    let p = err_from_is_err_and c.from_residual.result c.from_residual.ensures.1 in
+    rw (p.1, p.2) (field_after c.args.left c.args.bytes.now (unreadable (number_of c.in_err-tail.field-0.0)) c.if-left-eq0.false c.if-bytes-eq0.false c.if-first-lt128.false c.in_err-tail.ensures)

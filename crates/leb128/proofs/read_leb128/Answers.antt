@@ -4,9 +4,9 @@ use native.Mathlib.Omega.{arith}
 use mathlib.Core.Bool.{Bool, not}
 use lib.ListN.{length, get_or}
 use borrow.Author.Tests.{le-ltb}
+use Rattle.std.proofs.lemmas.Result.{err_from_is_err_and}
 use Rattle.base.specs.Answers.{given}
-use Rattle.leb128.specs.Field.{Field, sized, field_in, capped, encode, is_padded, answer_by, longest_field}
-use Rattle.leb128.specs.Paper.{paper_tail}
+use Rattle.leb128.specs.Field.{Field, sized, capped, encode, is_padded, answer_by, longest_field}
 use Rattle.leb128.proofs.Reading.{field_last, field_two, capped_small, capped_large}
 use Rattle.leb128.proofs.Writing.{encode_pos}
 use Rattle.leb128.proofs.Padded.{two_shortest}
@@ -31,15 +31,13 @@ returns-then-bytes-lt128-2 c = let l = c.args.bytes.now in
     ∙ ap (λ (b : Bool). given (record { value = get_or l 0 0 % 128 + 128 * get_or l 1 0; used = 2; shortest = b })) (two_shortest (get_or l 0 0) (get_or l 1 0) small)
     ∙ ap answer_by (capped_small l _ 2 (sym (field_two 6 l c.if-bytes-gt1.true c.if-bytes-lt128.false small)) (omega arith))
 
-pub returns-then-value-le-LARGEST_VALUE : goal.returns-then-value-le-LARGEST_VALUE
-returns-then-value-le-LARGEST_VALUE c =
-    let told : sized c.in-Read.value c.in-Read.used ≡ field_in longest_field c.args.bytes.now = sym (ap paper_tail c.in-Read.is) ∙ c.read_tail.ensures in
-    answers _ _ c.is_padded.ensures (capped_small _ _ _ (told) (omega (arith, c.if-value-le-LARGEST_VALUE.true)))
+pub returns : goal.returns
+returns c = answers _ _ c.is_padded.ensures (capped_small _ _ _ c.in_ok-tail.ensures (omega (arith, c.if-tail-gt-LARGEST_VALUE.false)))
 
-pub returns-else-value-le-LARGEST_VALUE : goal.returns-else-value-le-LARGEST_VALUE
-returns-else-value-le-LARGEST_VALUE c =
-    let told : sized c.in-Read.value c.in-Read.used ≡ field_in longest_field c.args.bytes.now = sym (ap paper_tail c.in-Read.is) ∙ c.read_tail.ensures in
-    ap answer_by (capped_large _ _ _ (told) (omega (arith, c.if-value-le-LARGEST_VALUE.false)))
+pub returns-then-tail-gt-LARGEST_VALUE : goal.returns-then-tail-gt-LARGEST_VALUE
+returns-then-tail-gt-LARGEST_VALUE c = ap answer_by (capped_large _ _ _ c.in_ok-tail.ensures (omega (arith, c.if-tail-gt-LARGEST_VALUE.true)))
 
-pub returns-in-Refused : goal.returns-in-Refused
-returns-in-Refused c = ap answer_by (ap capped (sym (ap paper_tail c.in-Refused.is) ∙ c.read_tail.ensures))
+pub returns-in_err-tail : goal.returns-in_err-tail
+returns-in_err-tail c =
+    let p = err_from_is_err_and c.from_residual.result c.from_residual.ensures.1 in
+    rw (p.1, p.2) (ap answer_by (ap capped c.in_err-tail.ensures))
