@@ -211,16 +211,13 @@ fn put_line_of(text: &[u8], n: u32, out: &mut [u8], at: usize) -> usize
 {
     let mut line: u64 = 0;
     let mut to = at;
-    let mut i: usize = 0;
-    while i < text.len() {
-        let b = text[i];
+    for &b in text {
         if b == b'\n' {
             line += 1;
         } else if line == n as u64 {
             out[to] = b;
             to += 1;
         }
-        i += 1;
     }
     to
 }
