@@ -162,7 +162,7 @@ pub fn put_text(text: &[u8], out: &mut [u8], at: usize) -> usize
 }
 
 // The words of the refusals, a line each; line 0 is nobody's.
-const WORDS: [u8; 1410] = *b"\n\
+const WORDS: &[u8] = b"\n\
     the mtu is over its limit\n\
     the unit is over its limit\n\
     an OBU's extension byte is missing\n\
@@ -228,6 +228,5 @@ pub fn put_words(number: u32, out: &mut [u8], at: usize) -> usize
     requires { at + words_most ≤ length out.old }
     ensures { Put out.old out.new at result (words_of number) }
 {
-    let text = WORDS;
-    put_line_of(&text, number, out, at)
+    put_line_of(WORDS, number, out, at)
 }
