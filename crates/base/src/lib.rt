@@ -11,7 +11,7 @@ ghost use Rattle.base.specs.Refusals.{number_of};
 ghost use Rattle.base.specs.Words.{words_of, words_most};
 ghost use Rattle.base.specs.Inside.{line_from};
 
-#[derive(Clone, Copy)]
+#[derive(Clone, Copy, Debug, PartialEq, Eq)]
 pub enum Refusal {
     MtuOverLimit = 1,
     UnitOverLimit = 2,
@@ -56,7 +56,7 @@ pub enum Refusal {
 }
 
 // A refusal, and the place that it carries.
-#[derive(Clone, Copy)]
+#[derive(Clone, Copy, Debug, PartialEq, Eq)]
 pub struct RefusedAt {
     pub refusal: Refusal,
     pub at: usize,
