@@ -1,7 +1,7 @@
 -- Numbers as bytes, the highest first: their length, that they read back, and a turn of the loops that read and write them. Assumes nothing.
 use mathlib.Core.Path.{◌≡◌, refl, sym, ap, ◌∙◌}
 use Prim.Native.Nat.{ℕ, zero, suc, ◌+◌, ◌-◌, ◌*◌, ◌/◌, ◌%◌, ◌^◌, ◌≤◌, ◌<◌}
-use native.Mathlib.Nat.{mul_assoc, mul-le-mul_left, mul-le-mul_right, pow-suc, pow-succ', one-le-pow, pow-le-pow_right}
+use native.Mathlib.Nat.{mul_assoc, mul-le-mul_left, mul-le-mul_right, pow-suc, pow-succ', one-le-pow}
 use native.Mathlib.Numerals.{add-one}
 use native.Mathlib.Omega.{arith}
 use mathlib.Core.List.{List, [], ◌∷◌, ◌++◌}
@@ -63,12 +63,6 @@ module _ {l : List ℕ} {at i v : ℕ} (r : Reads l at i v) where
             ∙ sym (rw (add-one i, take-suc (drop at l) i 0 k, get_or-drop at l i 0) (value_last 0 (take i (drop at l)) (get_or l (at + i) 0)));
         below = omega (arith, r.below);
       }
-
-  -- with one more byte it fits a word
-  pub reads_fits : i < 8 → v * 256 + 255 < 256 ^ 8
-  reads_fits h =
-      let p : 256 ^ i ≤ 256 ^ 7 = pow-le-pow_right {n = 256} (omega arith) {i = i} {j = 7} (omega arith) in
-      omega (arith, r.below)
 
 -- ---- writing: the last byte, and then those before it
 

@@ -10,10 +10,8 @@ pub fn number_at(bytes: &[u8], at: usize, width: usize) -> usize
     ensures { Reads bytes.now at width result }
 {
     let mut value: usize = 0;
-    let mut i: usize = 0;
-    while i < width {
-        value = value * 256 + bytes[at + i] as usize;
-        i += 1;
+    for &byte in &bytes[at..at + width] {
+        value = value * 256 + byte as usize;
     }
     value
 }
@@ -25,11 +23,9 @@ pub fn put_number(out: &mut [u8], at: usize, width: usize, value: usize) -> usiz
     ensures { Put out.old out.new at result (big_endian width value) }
 {
     let mut high = value;
-    let mut left = width;
-    while 0 < left {
-        left -= 1;
-        out[at + left] = (high % 256) as u8;
-        high = high / 256;
+    for i in (0..width).rev() {
+        out[at + i] = (high % 256) as u8;
+        high /= 256;
     }
     at + width
 }

@@ -11,52 +11,52 @@ ghost use Rattle.base.specs.Refusals.{number_of};
 ghost use Rattle.base.specs.Words.{words_of, words_most};
 ghost use Rattle.base.specs.Inside.{line_from};
 
-#[derive(Clone, Copy)]
+#[derive(Clone, Copy, Debug, PartialEq, Eq)]
 pub enum Refusal {
-    MtuOverLimit,
-    UnitOverLimit,
-    ExtensionMissing,
-    SizeMissing,
-    SizeUnfinished,
-    SizeTooLarge,
-    PayloadPastUnit,
-    ObuListFull,
-    PlanListFull,
-    NoRoomForPayloads,
-    NoUsablePacket,
-    StateImpossible,
-    PayloadLength,
-    NotAhead,
-    NewWithContinuation,
-    ElementLengthBad,
-    ElementBad,
-    ObuBroken,
-    FragmentTooLong,
-    NoRoomForObus,
-    TrainVersion,
-    TrainCut,
-    RecordTooShort,
-    HeaderShort,
-    ExtensionShort,
-    ExtensionElementPastBlock,
-    FieldOutOfRange,
-    HeaderSpaceShort,
-    NestedSizeUnreadable,
-    NestedSizeMisfit,
-    ListsDiffer,
-    SumTooLarge,
-    MtuBelowHeader,
-    TimeOutOfRange,
-    FrameEndsWrong,
-    ContinuesNothing,
-    OpenNotContinued,
-    SizeBitSent,
-    ElementLengthPadded,
-    DroppedTypeSent,
+    MtuOverLimit = 1,
+    UnitOverLimit = 2,
+    ExtensionMissing = 3,
+    SizeMissing = 4,
+    SizeUnfinished = 5,
+    SizeTooLarge = 6,
+    PayloadPastUnit = 7,
+    ObuListFull = 8,
+    PlanListFull = 9,
+    NoRoomForPayloads = 10,
+    NoUsablePacket = 11,
+    StateImpossible = 12,
+    PayloadLength = 13,
+    NotAhead = 14,
+    NewWithContinuation = 15,
+    ElementLengthBad = 16,
+    ElementBad = 17,
+    ObuBroken = 18,
+    FragmentTooLong = 19,
+    NoRoomForObus = 20,
+    TrainVersion = 21,
+    TrainCut = 22,
+    RecordTooShort = 23,
+    HeaderShort = 24,
+    ExtensionShort = 25,
+    ExtensionElementPastBlock = 26,
+    FieldOutOfRange = 27,
+    HeaderSpaceShort = 28,
+    NestedSizeUnreadable = 29,
+    NestedSizeMisfit = 30,
+    ListsDiffer = 31,
+    SumTooLarge = 32,
+    MtuBelowHeader = 33,
+    TimeOutOfRange = 34,
+    FrameEndsWrong = 35,
+    ContinuesNothing = 36,
+    OpenNotContinued = 37,
+    SizeBitSent = 38,
+    ElementLengthPadded = 39,
+    DroppedTypeSent = 40,
 }
 
 // A refusal, and the place that it carries.
-#[derive(Clone, Copy)]
+#[derive(Clone, Copy, Debug, PartialEq, Eq)]
 pub struct RefusedAt {
     pub refusal: Refusal,
     pub at: usize,
@@ -75,48 +75,7 @@ impl From<Refusal> for RefusedAt {
 pub fn number(refusal: Refusal) -> u32
     ensures { result ≡ number_of refusal }
 {
-    match refusal {
-        Refusal::MtuOverLimit => 1,
-        Refusal::UnitOverLimit => 2,
-        Refusal::ExtensionMissing => 3,
-        Refusal::SizeMissing => 4,
-        Refusal::SizeUnfinished => 5,
-        Refusal::SizeTooLarge => 6,
-        Refusal::PayloadPastUnit => 7,
-        Refusal::ObuListFull => 8,
-        Refusal::PlanListFull => 9,
-        Refusal::NoRoomForPayloads => 10,
-        Refusal::NoUsablePacket => 11,
-        Refusal::StateImpossible => 12,
-        Refusal::PayloadLength => 13,
-        Refusal::NotAhead => 14,
-        Refusal::NewWithContinuation => 15,
-        Refusal::ElementLengthBad => 16,
-        Refusal::ElementBad => 17,
-        Refusal::ObuBroken => 18,
-        Refusal::FragmentTooLong => 19,
-        Refusal::NoRoomForObus => 20,
-        Refusal::TrainVersion => 21,
-        Refusal::TrainCut => 22,
-        Refusal::RecordTooShort => 23,
-        Refusal::HeaderShort => 24,
-        Refusal::ExtensionShort => 25,
-        Refusal::ExtensionElementPastBlock => 26,
-        Refusal::FieldOutOfRange => 27,
-        Refusal::HeaderSpaceShort => 28,
-        Refusal::NestedSizeUnreadable => 29,
-        Refusal::NestedSizeMisfit => 30,
-        Refusal::ListsDiffer => 31,
-        Refusal::SumTooLarge => 32,
-        Refusal::MtuBelowHeader => 33,
-        Refusal::TimeOutOfRange => 34,
-        Refusal::FrameEndsWrong => 35,
-        Refusal::ContinuesNothing => 36,
-        Refusal::OpenNotContinued => 37,
-        Refusal::SizeBitSent => 38,
-        Refusal::ElementLengthPadded => 39,
-        Refusal::DroppedTypeSent => 40,
-    }
+    refusal as u32
 }
 
 // Stores numbers in a flat list from place `at` on.
@@ -162,7 +121,7 @@ pub fn put_text(text: &[u8], out: &mut [u8], at: usize) -> usize
 }
 
 // The words of the refusals, a line each; line 0 is nobody's.
-const WORDS: [u8; 1410] = *b"\n\
+const WORDS: &[u8] = b"\n\
     the mtu is over its limit\n\
     the unit is over its limit\n\
     an OBU's extension byte is missing\n\
@@ -211,16 +170,13 @@ fn put_line_of(text: &[u8], n: u32, out: &mut [u8], at: usize) -> usize
 {
     let mut line: u64 = 0;
     let mut to = at;
-    let mut i: usize = 0;
-    while i < text.len() {
-        let b = text[i];
+    for &b in text {
         if b == b'\n' {
             line += 1;
         } else if line == n as u64 {
             out[to] = b;
             to += 1;
         }
-        i += 1;
     }
     to
 }
@@ -231,6 +187,5 @@ pub fn put_words(number: u32, out: &mut [u8], at: usize) -> usize
     requires { at + words_most ≤ length out.old }
     ensures { Put out.old out.new at result (words_of number) }
 {
-    let text = WORDS;
-    put_line_of(&text, number, out, at)
+    put_line_of(WORDS, number, out, at)
 }

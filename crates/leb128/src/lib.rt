@@ -15,7 +15,7 @@ const LONGEST_FIELD: usize = 8;
 const LARGEST_VALUE: u64 = 4294967295;
 
 // A size field that was read: its value, the bytes that it takes, and whether they are its shortest form.
-#[derive(Clone, Copy)]
+#[derive(Clone, Copy, Debug, PartialEq, Eq)]
 pub struct SizeField {
     pub value: u32,
     pub used: usize,
