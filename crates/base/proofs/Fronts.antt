@@ -1,33 +1,21 @@
 -- Numbers that stand first in a list, and what is given where lists were compared. Assumes nothing.
 use mathlib.Core.Path.{◌≡◌, refl, ap}
-use Prim.Native.Nat.{ℕ, suc, ◌+◌, ◌<◌}
-use native.Mathlib.Numerals.{add-one}
+use Prim.Native.Nat.{ℕ}
 use native.Mathlib.Omega.{arith}
 use mathlib.Core.Bool.{Bool, true, false, ◌&&◌, false≢true}
 use mathlib.Core.List.{List, [], ◌∷◌, ◌++◌}
-use lib.ListN.{length, get_or, take, drop, length-take}
-use lib.Seq.{drop-cons}
+use lib.ListN.{length, take, drop}
 use lib.Dec.{eqb}
-use borrow.Author.Tests.{eqb-true, eq-eqb, ne_eqb}
+use borrow.Author.Tests.{eqb-true, eq-eqb}
 use Rattle.std.specs.List.{starts_with}
 use Rattle.base.specs.Answers.{Answer, given, refused, if_same}
 use Rattle.base.specs.Lists.{is_front}
 use Rattle.base.proofs.Tests.{split_on}
 
--- none stand first in any list, and in no numbers only none; otherwise by the first number of each
+-- none stand first in any list
 pub is_front_none : (l : List ℕ) → is_front [] l ≡ true
 unfolding is_front
 is_front_none l = refl
-
-pub is_front_past : (a : List ℕ) → is_front a [] ≡ eqb (length a) 0
-unfolding is_front
-is_front_past [] = refl
-is_front_past (x ∷ a) = rw (ne_eqb (suc (length a)) 0 (λ e. omega arith))
-
-pub is_front_at : (a l : List ℕ) (i j : ℕ) → i < length a → j < length l
-    → is_front (drop i a) (drop j l) ≡ eqb (get_or a i 0) (get_or l j 0) && is_front (drop (i + 1) a) (drop (j + 1) l)
-unfolding is_front
-is_front_at a l i j h k = rw (add-one i, add-one j, drop-cons a i 0 h, drop-cons l j 0 k)
 
 -- as the library's method says it
 pub starts_front : (l a : List ℕ) → starts_with eqb l a ≡ is_front a l
@@ -58,12 +46,6 @@ take_is_front (x ∷ a) (y ∷ l) h =
     let e : x ≡ y = cc in
     let r : take (length a) l ≡ a = cc in
     rw (eq-eqb x y e, take_is_front a l r)
-
--- not in a list that is too short
-pub is_front_short : (a l : List ℕ) → length l < length a → is_front a l ≡ false
-is_front_short a l h = split_on (is_front a l)
-    (λ t. absurd (omega (arith, ap length (is_front_take a l t), length-take (length a) l)))
-    (λ t. t)
 
 -- ---- what is given where lists were compared
 

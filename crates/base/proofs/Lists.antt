@@ -8,7 +8,7 @@ use mathlib.Core.Bool.{Bool, true, false, cond}
 use mathlib.Core.List.{List, [], ◌∷◌, ◌++◌, append-nil, append_assoc, map, flat_map}
 use borrow.Rule.Slice.PartMut.{put_mid}
 use lib.ListN.{length, get_or, take, drop, set, length-append, length-take, length-drop, drop_of_length-le}
-use lib.Seq.{take-nil, take_all, take-suc, take-add, length-take-le, get_or-drop, take_at, drop-append-add, drop-drop, sets, sets-eq}
+use lib.Seq.{take-nil, take_all, take-suc, length-take-le, get_or-drop, take_at, drop-append-add, drop-drop, sets, sets-eq}
 use lib.Dec.{ltb}
 use borrow.Author.Tests.{ltb-true, ltb-false, lt-ltb, le-ltb}
 use Rattle.base.specs.Lists.{replaced, front, keep, All, Prefix, Put}
@@ -68,17 +68,6 @@ module _ {A : Type 0} where
       let k : i < length (drop start s) = omega (arith, length-drop start s) in
       let n : length (take i (drop start s)) ≡ i = length-take-le i (drop start s) (omega arith) in
       rw (add-one i, take-suc (drop start s) i d k, get_or-drop start s i d, sets_append l at (take i (drop start s)) (get_or s (start + i) d ∷ []), n)
-
-  -- n bytes stored first and read again
-  pub stored_read : (l a : List A) (n : ℕ) → length a ≡ n → n ≤ length l → take n (drop 0 (sets l 0 a)) ≡ a
-  stored_read l a n e h = rw (sets-eq a l 0 (omega arith)) (take_at a (drop (0 + length a) l) n e)
-
-  -- a turn of the loop that copies blocks
-  pub copy_on : (l s : List A) (at start i n : ℕ) → start + i ≤ length s
-      → sets (sets l at (take i (drop start s))) (at + i) (take n (drop (start + i) s)) ≡ sets l at (take (i + n) (drop start s))
-  copy_on l s at start i n h =
-      let k : length (take i (drop start s)) ≡ i = length-take-le i (drop start s) (omega (arith, length-drop start s)) in
-      rw (take-add i n (drop start s), drop-drop i start s, sets_append l at (take i (drop start s)) (take n (drop (start + i) s)), k)
 
   pub keep_yes : (test : A → Bool) (a : A) (l : List A) → test a ≡ true → keep test (a ∷ l) ≡ a ∷ keep test l
   unfolding keep

@@ -9,10 +9,8 @@ ghost use Rattle.leb128.specs.Paper.{paper_tail, of_two};
 
 use base::Refusal;
 
-// The most bytes that a size field may have, and the largest value.
+// The most bytes that a size field may have; the largest value is that of a `u32`.
 const LONGEST_FIELD: usize = 8;
-
-const LARGEST_VALUE: u64 = 4294967295;
 
 // A size field that was read: its value, the bytes that it takes, and whether they are its shortest form.
 #[derive(Clone, Copy, Debug, PartialEq, Eq)]
@@ -37,18 +35,17 @@ fn read_tail(bytes: &[u8], left: usize) -> Result<Tail, Refusal>
     if left == 0 {
         return Err(Refusal::SizeTooLarge);
     }
-    if bytes.len() == 0 {
+    let [first, rest @ ..] = bytes else {
         return Err(Refusal::SizeUnfinished);
-    }
-    let first = bytes[0];
-    let low = (first & 127) as u64;
-    if first < 128 {
+    };
+    let low = (*first & 127) as u64;
+    if *first < 128 {
         return Ok(Tail {
             value: low,
             used: 1,
         });
     }
-    let tail = read_tail(&bytes[1..], left - 1)?;
+    let tail = read_tail(rest, left - 1)?;
     Ok(Tail {
         value: low + 128 * tail.value,
         used: tail.used + 1,
@@ -73,25 +70,21 @@ fn of_two(first: u8, second: u8) -> SizeField
 pub fn read_leb128(bytes: &[u8]) -> Result<SizeField, Refusal>
     ensures { paper result ≡ size_answer bytes.now }
 {
-    if bytes.len() > 0 {
-        if bytes[0] < 128 {
+    match *bytes {
+        [first, ..] if first < 128 => {
             return Ok(SizeField {
-                value: bytes[0] as u32,
+                value: first as u32,
                 used: 1,
                 shortest: true,
             });
         }
-        if bytes.len() > 1 {
-            if bytes[1] < 128 {
-                return Ok(of_two(bytes[0], bytes[1]));
-            }
-        }
+        [first, second, ..] if second < 128 => return Ok(of_two(first, second)),
+        _ => {}
     }
     let tail = read_tail(bytes, LONGEST_FIELD)?;
-    if tail.value > LARGEST_VALUE {
+    let Ok(value) = u32::try_from(tail.value) else {
         return Err(Refusal::SizeTooLarge);
-    }
-    let value = tail.value as u32;
+    };
     Ok(SizeField {
         value,
         used: tail.used,
@@ -107,7 +100,7 @@ pub fn leb128_size(value: u32) -> usize
     let mut rest = value;
     while rest >= 128 {
         size += 1;
-        rest = rest >> 7;
+        rest >>= 7;
     }
     size
 }
@@ -116,10 +109,7 @@ pub fn leb128_size(value: u32) -> usize
 pub fn is_padded(value: u32, used: usize) -> bool
     ensures { result ≡ is_padded value used }
 {
-    if used < 2 {
-        return false;
-    }
-    leb128_size(value) < used
+    used >= 2 && leb128_size(value) < used
 }
 
 // Writes the shortest form of `value` at the cursor `at`, and returns the cursor after it.
@@ -133,7 +123,7 @@ pub fn put_leb128(out: &mut [u8], at: usize, value: u32) -> usize
     while rest >= 128 {
         out[i] = ((rest & 127) | 128) as u8;
         i += 1;
-        rest = rest >> 7;
+        rest >>= 7;
     }
     out[i] = rest as u8;
     i + 1

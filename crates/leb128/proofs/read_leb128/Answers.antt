@@ -16,26 +16,28 @@ use Rattle.leb128.proofs.read_leb128.Goals as goal
 answers : (v n : ℕ) {p : Bool} {f : Field} → p ≡ is_padded v n → sized v n ≡ f → given (record { value = v; used = n; shortest = not p }) ≡ answer_by f
 answers v n e q = ap (λ (b : Bool). given (record { value = v; used = n; shortest = not b })) e ∙ ap answer_by q
 
-pub returns-then-bytes-lt128 : goal.returns-then-bytes-lt128
-returns-then-bytes-lt128 c = let l = c.args.bytes.now in
-    let v : get_or l 0 0 ≡ get_or l 0 0 % 128 = omega (arith, c.if-bytes-lt128.true) in
+pub returns-in-len1-up : goal.returns-in-len1-up
+returns-in-len1-up c = let l = c.args.bytes.now in
+    let v : get_or l 0 0 ≡ get_or l 0 0 % 128 = omega (arith, c.if-first-lt128.true) in
     answers _ _ (sym (le-ltb (length (encode (get_or l 0 0))) 1 (encode_pos 5 (get_or l 0 0) (omega arith))))
     (capped_small l _ 1
-    (ap (λ (n : ℕ). sized n 1) v ∙ sym (field_last longest_field l (λ z. omega arith) (λ z. omega (arith, c.if-bytes-gt0.true)) (omega (arith, c.if-bytes-lt128.true))))
-    (omega (arith, c.if-bytes-lt128.true)))
+    (ap (λ (n : ℕ). sized n 1) v ∙ sym (field_last longest_field l (λ z. omega arith) (λ z. omega (arith, c.in-len1-up.len_at_least)) (omega (arith, c.if-first-lt128.true))))
+    (omega (arith, c.if-first-lt128.true)))
 
-pub returns-then-bytes-lt128-2 : goal.returns-then-bytes-lt128-2
-returns-then-bytes-lt128-2 c = let l = c.args.bytes.now in
-    let small : get_or l 1 0 < 128 = c.if-bytes-lt128-2.true in
+pub returns-in-len2-up : goal.returns-in-len2-up
+returns-in-len2-up c = let l = c.args.bytes.now in
+    let small : get_or l 1 0 < 128 = c.if-second-lt128.true in
     ap given c.of_two.ensures
     ∙ ap (λ (b : Bool). given (record { value = get_or l 0 0 % 128 + 128 * get_or l 1 0; used = 2; shortest = b })) (two_shortest (get_or l 0 0) (get_or l 1 0) small)
-    ∙ ap answer_by (capped_small l _ 2 (sym (field_two 6 l c.if-bytes-gt1.true c.if-bytes-lt128.false small)) (omega arith))
+    ∙ ap answer_by (capped_small l _ 2 (sym (field_two 6 l c.in-len2-up.len_at_least c.if-first-lt128.false small)) (omega arith))
 
 pub returns : goal.returns
-returns c = answers _ _ c.is_padded.ensures (capped_small _ _ _ c.in_ok-tail.ensures (omega (arith, c.if-tail-gt-LARGEST_VALUE.false)))
+returns c =
+    let e = c.in-Ok.ensures in
+    answers _ _ c.is_padded.ensures (capped_small _ _ _ (ap (λ (v : ℕ). sized v c.in_ok-tail.tail.used) e.1 ∙ c.in_ok-tail.ensures) (omega (arith, e.0, e.1)))
 
-pub returns-then-tail-gt-LARGEST_VALUE : goal.returns-then-tail-gt-LARGEST_VALUE
-returns-then-tail-gt-LARGEST_VALUE c = ap answer_by (capped_large _ _ _ c.in_ok-tail.ensures (omega (arith, c.if-tail-gt-LARGEST_VALUE.true)))
+pub returns-in_default-try_from : goal.returns-in_default-try_from
+returns-in_default-try_from c = ap answer_by (capped_large _ _ _ c.in_ok-tail.ensures (omega (arith, c.in_default-try_from.ensures)))
 
 pub returns-in_err-tail : goal.returns-in_err-tail
 returns-in_err-tail c =
