@@ -23,6 +23,13 @@ const UNIT_LIMIT: usize = 1048576;
 
 pub const OBU_NUMBERS: usize = 5;
 
+// The types of OBUs that are dropped.
+const TEMPORAL_DELIMITER: u8 = 2;
+
+const TILE_LIST: u8 = 8;
+
+const PADDING: u8 = 15;
+
 // A kept OBU: header byte, extension byte or 0, where its payload starts and how long it is, and its size without the size field.
 #[derive(Clone, Copy)]
 pub struct Obu {
@@ -95,13 +102,7 @@ pub fn header_size(header: u8) -> usize
 pub fn should_ignore_obu_type(obu_type: u8) -> bool
     ensures { result ≡ drops obu_type }
 {
-    if obu_type == 2 {
-        return true;
-    }
-    if obu_type == 8 {
-        return true;
-    }
-    obu_type == 15
+    matches!(obu_type, TEMPORAL_DELIMITER | TILE_LIST | PADDING)
 }
 
 // Writes an OBU's header byte with bit 1 set and its extension byte, and returns the cursor after them.
