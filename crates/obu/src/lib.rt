@@ -4,11 +4,13 @@
 mod compare; // compare.rt: whether a list is that of a unit
 mod unit; // unit.rt: the OBUs of a unit counted, and their records stored
 
-ghost use Rattle.std.specs.Prelude.{◌≡◌, ℕ, ◌+◌, ◌*◌, ◌^◌, ◌≤◌, ◌<◌, min, cond, List, ◌∷◌, length, take, get_or, eqb};
+ghost use Rattle.std.specs.Prelude.{◌≡◌, ℕ, ◌+◌, ◌*◌, ◌^◌, ◌≤◌, ◌<◌, min, cond, List, ◌∷◌, length, take, drop, get_or, eqb, IfOk, IfErr};
 ghost use Rattle.base.specs.Lists.{replaced};
+ghost use Rattle.base.specs.Refusals.{number_of};
+ghost use Rattle.leb128.specs.Field.{is_padded};
 ghost use Rattle.obu.specs.Header.{type_of, extension_bit, size_bit, header_length, cleared, marked, drops};
-ghost use Rattle.obu.specs.Front.{head_bytes, span_of, front_of};
-ghost use Rattle.obu.specs.Records.{obu_numbers, obus_in, no_obu};
+ghost use Rattle.obu.specs.Front.{head_bytes, span_of, found, stopped, front_of};
+ghost use Rattle.obu.specs.Records.{obu_numbers, numbers_of, obus_in, no_obu};
 ghost use Rattle.obu.specs.Unit.{unit_limit, placed, list_answer, list_after};
 ghost use Rattle.obu.specs.Wire.{extension_bytes, whole_of};
 ghost use Rattle.base.specs.Answers.{paper_at};
@@ -23,6 +25,13 @@ const UNIT_LIMIT: usize = 1048576;
 
 pub const OBU_NUMBERS: usize = 5;
 
+// The types of OBUs that are dropped.
+const TEMPORAL_DELIMITER: u8 = 2;
+
+const TILE_LIST: u8 = 8;
+
+const PADDING: u8 = 15;
+
 // A kept OBU: header byte, extension byte or 0, where its payload starts and how long it is, and its size without the size field.
 #[derive(Clone, Copy)]
 pub struct Obu {
@@ -33,6 +42,21 @@ pub struct Obu {
     pub size: u32,
 }
 
+impl Obu {
+    // The numbers of its record in a flat list.
+    fn numbers(self) -> [u32; OBU_NUMBERS]
+        ensures { result ≡ numbers_of self }
+    {
+        [
+            u32::from(self.header),
+            u32::from(self.extension),
+            self.start,
+            self.length,
+            self.size,
+        ]
+    }
+}
+
 // An OBU at the front of some bytes: how many bytes its size field and its payload have.
 #[derive(Clone, Copy)]
 pub struct Head {
@@ -40,6 +64,46 @@ pub struct Head {
     pub extension: u8,
     pub field: usize,
     pub payload: usize,
+}
+
+impl Head {
+    // How many bytes the OBU takes in all.
+    fn span(self) -> usize
+        requires { span_of (paper_head self) < 2 ^ 64 }
+        ensures { result ≡ span_of (paper_head self) }
+    {
+        header_size(self.header) + self.field + self.payload
+    }
+
+    // Whether its type is dropped.
+    fn is_dropped(self) -> bool
+        ensures { result ≡ drops (type_of self.header) }
+    {
+        should_ignore_obu_type(obu_type(self.header))
+    }
+
+    // Whether its size field is padded.
+    fn is_padded(self) -> bool
+        requires { self.payload < 2 ^ 32 }
+        ensures { result ≡ is_padded self.payload self.field }
+    {
+        leb128::is_padded(self.payload as u32, self.field)
+    }
+
+    // Its record, where its header byte stands at `at`.
+    fn record_at(self, at: usize) -> Obu
+        requires { at + span_of (paper_head self) ≤ unit_limit }
+        ensures { result ≡ (placed at (paper_head self)).obu }
+    {
+        let after = header_size(self.header);
+        Obu {
+            header: self.header,
+            extension: self.extension,
+            start: (at + after + self.field) as u32,
+            length: self.payload as u32,
+            size: (after + self.payload) as u32,
+        }
+    }
 }
 
 // What a unit's list holds: how many OBUs are kept, and how many size fields of all its OBUs are padded.
@@ -95,13 +159,7 @@ pub fn header_size(header: u8) -> usize
 pub fn should_ignore_obu_type(obu_type: u8) -> bool
     ensures { result ≡ drops obu_type }
 {
-    if obu_type == 2 {
-        return true;
-    }
-    if obu_type == 8 {
-        return true;
-    }
-    obu_type == 15
+    matches!(obu_type, TEMPORAL_DELIMITER | TILE_LIST | PADDING)
 }
 
 // Writes an OBU's header byte with bit 1 set and its extension byte, and returns the cursor after them.
@@ -168,12 +226,15 @@ fn read_obu(bytes: &[u8], total: usize) -> Result<Head, Refusal>
     })
 }
 
-// How many bytes an OBU takes in all.
-fn span(head: Head) -> usize
-    requires { span_of (paper_head head) < 2 ^ 64 }
-    ensures { result ≡ span_of (paper_head head) }
+// The OBU whose header byte stands at the cursor `at` of a unit: it lies in the unit.
+fn head_at(unit: &[u8], at: usize) -> Result<Head, RefusedAt>
+    requires { at < length unit.now }
+    ensures found { IfOk result (λ head. found (paper_head head) ≡ front_of (drop at unit.now)) }
+    ensures inside { IfOk result (λ head. at + span_of (paper_head head) ≤ length unit.now) }
+    ensures refused { IfErr result (λ e. stopped (number_of e.refusal) ≡ front_of (drop at unit.now)) }
+    ensures at { IfErr result (λ e. e.at ≡ at) }
 {
-    header_size(head.header) + head.field + head.payload
+    read_obu(&unit[at..], unit.len() - at).map_err(|refusal| RefusedAt { refusal, at })
 }
 
 // An OBU of exactly `total` bytes, the first of which are `bytes`.
@@ -184,23 +245,8 @@ pub fn whole_obu(bytes: &[u8], total: usize) -> Result<Head, Refusal>
         → paper_whole result ≡ whole_of all }
 {
     match read_obu(bytes, total) {
-        Ok(head) if span(head) == total => Ok(head),
+        Ok(head) if head.span() == total => Ok(head),
         _ => Err(Refusal::ObuBroken),
-    }
-}
-
-// The record of an OBU whose header byte stands at `at`.
-fn record_at(head: Head, at: usize) -> Obu
-    requires { at + span_of (paper_head head) ≤ unit_limit }
-    ensures { result ≡ (placed at (paper_head head)).obu }
-{
-    let after = header_size(head.header);
-    Obu {
-        header: head.header,
-        extension: head.extension,
-        start: (at + after + head.field) as u32,
-        length: head.payload as u32,
-        size: (after + head.payload) as u32,
     }
 }
 

@@ -1,33 +1,33 @@
-use mathlib.Core.Path.{◌≡◌, sym, ap, ◌∙◌}
+use mathlib.Core.Path.{sym, ap, ◌∙◌}
 use Prim.Native.Nat.{◌/◌}
 use native.Mathlib.Omega.{arith}
 use lib.ListN.{length}
-use Rattle.base.specs.Answers.{Answer, given, stored}
-use Rattle.obu.specs.Unit.{obus_of, listed}
-use Rattle.obu.specs.Paper.{paper_list}
+use Rattle.std.proofs.lemmas.Result.{err_from_is_err_and}
+use Rattle.base.specs.Answers.{Answer, stored}
+use Rattle.obu.specs.Unit.{obus_of}
 use Rattle.obu.specs.Records.{flat, obu_numbers}
 use Rattle.obu.specs.declared.Listed.{Listed}
 use Rattle.obu.proofs.Scans.{listed_large, given_listed}
 use Rattle.obu.proofs.parse_obus.Goals as goal
 
 pub returns-then-unit-gt-UNIT_LIMIT : goal.returns-then-unit-gt-UNIT_LIMIT
-returns-then-unit-gt-UNIT_LIMIT c = let a = c.args in
+returns-then-unit-gt-UNIT_LIMIT c =
+    let a = c.args in
     let e = sym (listed_large a.unit.now (length a.obus.now / obu_numbers) c.if-unit-gt-UNIT_LIMIT.true) in
-    (e, ap (λ (x : Answer Listed). stored x (flat (obus_of a.unit.now)) a.obus.now) e)
+    (rw c.into.ensures e, ap (λ (x : Answer Listed). stored x (flat (obus_of a.unit.now)) a.obus.now) e)
 
 pub store_obus-requires : goal.store_obus-requires
 store_obus-requires c =
-    let counted : given c.in-Listed.listed ≡ listed (length c.args.obus.now / obu_numbers) c.args.unit.now = sym (ap paper_list c.in-Listed.is) ∙ c.count_obus.ensures in
-    let g = given_listed c.args.unit.now (length c.args.obus.now / obu_numbers) (counted) in
+    let g = given_listed c.args.unit.now (length c.args.obus.now / obu_numbers) c.in_ok-listed.ensures in
     (g.0, g.1, omega (arith, g.3))
 
-pub returns-in-Listed : goal.returns-in-Listed
-returns-in-Listed c =
-    let counted : given c.in-Listed.listed ≡ listed (length c.args.obus.now / obu_numbers) c.args.unit.now = sym (ap paper_list c.in-Listed.is) ∙ c.count_obus.ensures in
+pub returns : goal.returns
+returns c =
     let a = c.args in
-    (counted, c.store_obus.ensures ∙ ap (λ (x : Answer Listed). stored x (flat (obus_of a.unit.now)) a.obus.now) (counted))
+    (c.in_ok-listed.ensures, c.store_obus.ensures ∙ ap (λ (x : Answer Listed). stored x (flat (obus_of a.unit.now)) a.obus.now) c.in_ok-listed.ensures)
 
-pub returns-in-Refused : goal.returns-in-Refused
-returns-in-Refused c = let a = c.args in
-    let e = sym (ap paper_list c.in-Refused.is) ∙ c.count_obus.ensures in
-    (e, ap (λ (x : Answer Listed). stored x (flat (obus_of a.unit.now)) a.obus.now) e)
+pub returns-in_err-listed : goal.returns-in_err-listed
+returns-in_err-listed c =
+    let a = c.args in
+    let p = err_from_is_err_and c.from_residual.result c.from_residual.ensures.1 in
+    (rw (p.1, p.2) c.in_err-listed.ensures, ap (λ (x : Answer Listed). stored x (flat (obus_of a.unit.now)) a.obus.now) c.in_err-listed.ensures)

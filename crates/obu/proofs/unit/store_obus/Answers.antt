@@ -1,102 +1,29 @@
-use mathlib.Core.Path.{◌≡◌, sym, ap, ◌∙◌}
-use Prim.Native.Nat.{◌+◌, ◌-◌, ◌≤◌}
+use mathlib.Core.Path.{sym, ◌∙◌}
 use native.Mathlib.Omega.{arith}
-use lib.ListN.{length, take, drop, length-drop}
-use Rattle.base.proofs.Lists.{part_from}
-use Rattle.obu.specs.Header.{type_of, drops}
-use Rattle.obu.specs.Front.{Front, head_bytes, span_of, found, front_of}
-use Rattle.obu.specs.Paper.{paper_head, paper_read}
-use Rattle.obu.proofs.Scans.{spans}
 use Rattle.obu.proofs.Stores.{stored_first, stored_drop, stored_room, stored_keep, stored_never, stored_end}
 use Rattle.obu.proofs.unit.store_obus.Goals as goal
+use Rattle.obu.proofs.unit.store_obus.Goals.{then-not-is_dropped, else-not-is_dropped}
 
 pub loop-at-init : goal.loop-at-init
 loop-at-init c = stored_first
 
-pub read_obu-requires : goal.read_obu-requires
-read_obu-requires c = let u = c.args.unit.now in
-    let e : length (take (length u - c.loop-at.at) (drop c.loop-at.at u)) ≡ length u - c.loop-at.at = ap length (part_from u c.loop-at.at (omega arith)) ∙ length-drop c.loop-at.at u in
-    omega arith
-
-pub shape_of-obus-in-Refused : goal.shape_of-obus-in-Refused
-shape_of-obus-in-Refused c = c.loop-at.invariant.same
-
-pub returns-in-Refused : goal.returns-in-Refused
-returns-in-Refused c =
-    let read : paper_read c.read_obu.result ≡ front_of (drop c.loop-at.at c.args.unit.now) = let u = c.args.unit.now in let at = c.loop-at.at in c.read_obu.ensures (drop at u) (ap (take head_bytes) (sym (part_from u at (omega arith)))) (length-drop at u) in
-    absurd (stored_never c.loop-at.invariant c.requires.1 (sym (ap paper_read c.in-Refused.is) ∙ read) c.loop-at-test.true)
-
-pub span-requires : goal.span-requires
-span-requires c =
-    let front : Front = paper_head c.in-Found.head in
-    let read : paper_read c.read_obu.result ≡ front_of (drop c.loop-at.at c.args.unit.now) = let u = c.args.unit.now in let at = c.loop-at.at in c.read_obu.ensures (drop at u) (ap (take head_bytes) (sym (part_from u at (omega arith)))) (length-drop at u) in
-    let seen : found (front) ≡ front_of (drop c.loop-at.at c.args.unit.now) = sym (ap paper_read c.in-Found.is) ∙ read in
-    let spanned : c.loop-at.at + span_of (front) ≤ length c.args.unit.now = spans c.loop-at.invariant.walk (seen) c.loop-at-test.true in
-    omega (arith, spanned, c.requires.0)
-
-pub overflow_add-next : goal.overflow_add-next
-overflow_add-next c =
-    let front : Front = paper_head c.in-Found.head in
-    let read : paper_read c.read_obu.result ≡ front_of (drop c.loop-at.at c.args.unit.now) = let u = c.args.unit.now in let at = c.loop-at.at in c.read_obu.ensures (drop at u) (ap (take head_bytes) (sym (part_from u at (omega arith)))) (length-drop at u) in
-    let seen : found (front) ≡ front_of (drop c.loop-at.at c.args.unit.now) = sym (ap paper_read c.in-Found.is) ∙ read in
-    let spanned : c.loop-at.at + span_of (front) ≤ length c.args.unit.now = spans c.loop-at.invariant.walk (seen) c.loop-at-test.true in
-    omega (arith, spanned, c.span.ensures, c.requires.0)
-
-pub loop-at-smaller-then-should_ignore_obu_type : goal.loop-at-smaller-then-should_ignore_obu_type
-loop-at-smaller-then-should_ignore_obu_type c =
-    let front : Front = paper_head c.in-Found.head in
-    let read : paper_read c.read_obu.result ≡ front_of (drop c.loop-at.at c.args.unit.now) = let u = c.args.unit.now in let at = c.loop-at.at in c.read_obu.ensures (drop at u) (ap (take head_bytes) (sym (part_from u at (omega arith)))) (length-drop at u) in
-    let seen : found (front) ≡ front_of (drop c.loop-at.at c.args.unit.now) = sym (ap paper_read c.in-Found.is) ∙ read in
-    let spanned : c.loop-at.at + span_of (front) ≤ length c.args.unit.now = spans c.loop-at.invariant.walk (seen) c.loop-at-test.true in
-    omega (arith, spanned, c.span.ensures)
-
-pub loop-at-preserved-then-should_ignore_obu_type : goal.loop-at-preserved-then-should_ignore_obu_type
-loop-at-preserved-then-should_ignore_obu_type c =
-    let front : Front = paper_head c.in-Found.head in
-    let read : paper_read c.read_obu.result ≡ front_of (drop c.loop-at.at c.args.unit.now) = let u = c.args.unit.now in let at = c.loop-at.at in c.read_obu.ensures (drop at u) (ap (take head_bytes) (sym (part_from u at (omega arith)))) (length-drop at u) in
-    let seen : found (front) ≡ front_of (drop c.loop-at.at c.args.unit.now) = sym (ap paper_read c.in-Found.is) ∙ read in
-    let dropped : drops (type_of (front).header) ≡ c.should_ignore_obu_type.result = sym (c.should_ignore_obu_type.ensures ∙ ap drops c.obu_type.ensures) in
-    rw c.span.ensures
-    (stored_drop c.loop-at.invariant (seen) c.loop-at-test.true (dropped ∙ c.if-should_ignore_obu_type.true))
-
-pub record_at-requires : goal.record_at-requires
-record_at-requires c =
-    let front : Front = paper_head c.in-Found.head in
-    let read : paper_read c.read_obu.result ≡ front_of (drop c.loop-at.at c.args.unit.now) = let u = c.args.unit.now in let at = c.loop-at.at in c.read_obu.ensures (drop at u) (ap (take head_bytes) (sym (part_from u at (omega arith)))) (length-drop at u) in
-    let seen : found (front) ≡ front_of (drop c.loop-at.at c.args.unit.now) = sym (ap paper_read c.in-Found.is) ∙ read in
-    let spanned : c.loop-at.at + span_of (front) ≤ length c.args.unit.now = spans c.loop-at.invariant.walk (seen) c.loop-at-test.true in
-    omega (arith, spanned, c.requires.0)
+pub returns-in_default : goal.returns-in_default
+returns-in_default c = absurd (stored_never c.loop-at.invariant c.requires.1 c.in_default.ensures.refused c.loop-at-test.true)
 
 pub put_obu-requires : goal.put_obu-requires
 put_obu-requires c =
-    let front : Front = paper_head c.in-Found.head in
-    let read : paper_read c.read_obu.result ≡ front_of (drop c.loop-at.at c.args.unit.now) = let u = c.args.unit.now in let at = c.loop-at.at in c.read_obu.ensures (drop at u) (ap (take head_bytes) (sym (part_from u at (omega arith)))) (length-drop at u) in
-    let seen : found (front) ≡ front_of (drop c.loop-at.at c.args.unit.now) = sym (ap paper_read c.in-Found.is) ∙ read in
-    let dropped : drops (type_of (front).header) ≡ c.should_ignore_obu_type.result = sym (c.should_ignore_obu_type.ensures ∙ ap drops c.obu_type.ensures) in
-    omega (arith, stored_room c.loop-at.invariant (seen) c.loop-at-test.true (dropped ∙ c.if-should_ignore_obu_type.false) c.requires.2, c.loop-at.invariant.same)
-
-pub overflow_add-n : goal.overflow_add-n
-overflow_add-n c = omega (arith, c.loop-at.invariant.walk.few, c.loop-at.invariant.walk.inside, c.requires.0)
-
-pub loop-at-smaller : goal.loop-at-smaller
-loop-at-smaller c =
-    let front : Front = paper_head c.in-Found.head in
-    let read : paper_read c.read_obu.result ≡ front_of (drop c.loop-at.at c.args.unit.now) = let u = c.args.unit.now in let at = c.loop-at.at in c.read_obu.ensures (drop at u) (ap (take head_bytes) (sym (part_from u at (omega arith)))) (length-drop at u) in
-    let seen : found (front) ≡ front_of (drop c.loop-at.at c.args.unit.now) = sym (ap paper_read c.in-Found.is) ∙ read in
-    let spanned : c.loop-at.at + span_of (front) ≤ length c.args.unit.now = spans c.loop-at.invariant.walk (seen) c.loop-at-test.true in
-    omega (arith, spanned, c.span.ensures)
-
-pub shape_of-obus : goal.shape_of-obus
-shape_of-obus c = c.loop-at.invariant.same
-
-pub returns : goal.returns
-returns c = stored_end c.loop-at.invariant c.loop-at-test.false
+    omega (arith, stored_room c.loop-at.invariant c.in-Ok.ensures.found c.loop-at-test.true (sym c.is_dropped.ensures ∙ c.if-not-is_dropped.true) c.requires.2, c.loop-at.invariant.same)
 
 pub loop-at-preserved : goal.loop-at-preserved
 loop-at-preserved c =
-    let front : Front = paper_head c.in-Found.head in
-    let read : paper_read c.read_obu.result ≡ front_of (drop c.loop-at.at c.args.unit.now) = let u = c.args.unit.now in let at = c.loop-at.at in c.read_obu.ensures (drop at u) (ap (take head_bytes) (sym (part_from u at (omega arith)))) (length-drop at u) in
-    let seen : found (front) ≡ front_of (drop c.loop-at.at c.args.unit.now) = sym (ap paper_read c.in-Found.is) ∙ read in
-    let dropped : drops (type_of (front).header) ≡ c.should_ignore_obu_type.result = sym (c.should_ignore_obu_type.ensures ∙ ap drops c.obu_type.ensures) in
-    rw c.span.ensures
-    (stored_keep c.loop-at.invariant (seen) c.loop-at-test.true (dropped ∙ c.if-should_ignore_obu_type.false) c.requires.2 c.record_at.ensures c.put_obu.auto.obus c.put_obu.ensures)
+    elim c.if-not-is_dropped.branch [
+      | then-not-is_dropped w ↦
+          rw (c.span-at.ensures, w.obus-is, w.n-is)
+          (stored_keep c.loop-at.invariant c.in-Ok.ensures.found c.loop-at-test.true (sym c.is_dropped.ensures ∙ w.if-not-is_dropped.true) c.requires.2 w.record_at.ensures w.put_obu.auto.obus w.put_obu.ensures)
+      | else-not-is_dropped w ↦
+          rw (c.span-at.ensures, w.obus-is, w.n-is)
+          (stored_drop c.loop-at.invariant c.in-Ok.ensures.found c.loop-at-test.true (sym c.is_dropped.ensures ∙ w.if-not-is_dropped.false))
+    ]
+
+pub returns : goal.returns
+returns c = stored_end c.loop-at.invariant c.loop-at-test.false
