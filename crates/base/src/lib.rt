@@ -11,6 +11,7 @@ ghost use Rattle.base.specs.Refusals.{number_of};
 ghost use Rattle.base.specs.Words.{words_of, words_most};
 ghost use Rattle.base.specs.Inside.{line_from};
 
+// The refusals, each with its number.
 #[derive(Clone, Copy, Debug, PartialEq, Eq)]
 pub enum Refusal {
     MtuOverLimit = 1,

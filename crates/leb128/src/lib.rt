@@ -118,6 +118,7 @@ pub fn put_leb128(out: &mut [u8], at: usize, value: u32) -> usize
     requires { at + length (encode value) ≤ length out.old }
     ensures { (result ≡ at + length (encode value)) × (out.new ≡ replaced out.old at (encode value)) }
 {
+    // `while`: how many bytes there are is known once the value is used up.
     let mut i = at;
     let mut rest = value;
     while rest >= 128 {

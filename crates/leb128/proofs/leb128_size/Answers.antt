@@ -5,12 +5,6 @@ use Rattle.leb128.proofs.leb128_size.Goals as goal
 pub loop-rest-init : goal.loop-rest-init
 loop-rest-init c = counting_first c.args.value (omega arith)
 
-pub overflow_add-size : goal.overflow_add-size
-overflow_add-size c = omega arith
-
-pub loop-rest-smaller : goal.loop-rest-smaller
-loop-rest-smaller c = omega arith
-
 pub loop-rest-preserved : goal.loop-rest-preserved
 loop-rest-preserved c = counting_next _ _ _ c.loop-rest.invariant c.loop-rest-test.true
 
