@@ -5,6 +5,7 @@ mod compare; // compare.rt: whether a list is that of a unit
 mod unit; // unit.rt: the OBUs of a unit counted, and their records stored
 
 ghost use Rattle.std.specs.Prelude.{◌≡◌, ℕ, ◌+◌, ◌*◌, ◌^◌, ◌≤◌, ◌<◌, min, cond, List, ◌∷◌, length, take, drop, get_or, eqb, IfOk, IfErr};
+ghost use Rattle.base.specs.Answers.{paper_at};
 ghost use Rattle.base.specs.Lists.{replaced};
 ghost use Rattle.base.specs.Refusals.{number_of};
 ghost use Rattle.leb128.specs.Field.{is_padded};
@@ -13,7 +14,6 @@ ghost use Rattle.obu.specs.Front.{head_bytes, span_of, found, stopped, front_of}
 ghost use Rattle.obu.specs.Records.{obu_numbers, numbers_of, obus_in, no_obu};
 ghost use Rattle.obu.specs.Unit.{unit_limit, placed, list_answer, list_after};
 ghost use Rattle.obu.specs.Wire.{extension_bytes, whole_of};
-ghost use Rattle.base.specs.Answers.{paper_at};
 ghost use Rattle.obu.specs.Paper.{paper_head, paper_read, paper_whole};
 
 use base::{Refusal, RefusedAt};

@@ -1,21 +1,12 @@
 // The OBUs of a unit from its first byte to its end (O1, O5 to O8, F6): counted, and their records stored.
-ghost use Rattle.std.specs.Prelude.{◌≡◌, ◌+◌, ◌*◌, ◌≤◌, ◌<◌, cond, length};
-ghost use Rattle.std.proofs.lemmas.List.Edits.{sets};
-ghost use Rattle.base.specs.Lists.{front};
-ghost use Rattle.obu.specs.Records.{obu_numbers, numbers_of, flat};
-ghost use Rattle.obu.specs.Unit.{unit_limit, ended, scan_of, kept_of, obus_of, listed};
+ghost use Rattle.std.specs.Prelude.{◌≡◌, ◌*◌, ◌≤◌, length};
 ghost use Rattle.base.specs.Answers.{paper_at};
+ghost use Rattle.base.specs.Lists.{front};
+ghost use Rattle.obu.specs.Records.{obu_numbers, flat};
+ghost use Rattle.obu.specs.Unit.{unit_limit, ended, scan_of, kept_of, obus_of, listed};
 
-use crate::{Listed, OBU_NUMBERS, Obu};
+use crate::{Listed, OBU_NUMBERS};
 use base::{Refusal, RefusedAt};
-
-// Writes the numbers of record `n`.
-fn put_obu(obus: &mut [u32], n: usize, o: Obu)
-    requires { (n + 1) * obu_numbers ≤ length obus.old }
-    ensures { obus.new ≡ sets obus.old (n * obu_numbers) (numbers_of o) }
-{
-    base::put_numbers(obus, n * OBU_NUMBERS, &o.numbers());
-}
 
 // Goes through a unit, with space for so many records: counts the kept OBUs and the padded size fields.
 // Helper: the unit must be within its limit.
@@ -58,7 +49,7 @@ pub fn store_obus(unit: &[u8], obus: &mut [u32])
             return;
         };
         if !head.is_dropped() {
-            put_obu(obus, n, head.record_at(at));
+            base::put_numbers(obus, n * OBU_NUMBERS, &head.record_at(at).numbers());
             n += 1;
         }
         at += head.span();

@@ -1,4 +1,4 @@
-use mathlib.Core.Path.{refl, sym, ◌∙◌}
+use mathlib.Core.Path.{sym, ◌∙◌}
 use Rattle.std.proofs.lemmas.Result.{err_from_is_err_and}
 use Rattle.obu.proofs.Compares.{compared_first, compared_drop, compared_keep, compared_stop, compared_end}
 use Rattle.obu.proofs.compare.compare_obus.Goals as goal
@@ -18,11 +18,11 @@ loop-at-preserved c =
       | then-not-is_dropped w ↦ elim w.if-same.branch [
         | then-same v ↦
             rw (c.span-at.ensures, w.n-is)
-            (compared_keep c.loop-at.invariant c.in_ok-head.ensures.found c.loop-at-test.true (sym c.is_dropped.ensures ∙ w.if-not-is_dropped.true) v.record_at.ensures
-            (rw (w.same-is, v.same-is, v.if-same.true) v.same_obu-same.ensures))
+            (compared_keep c.loop-at.invariant c.in_ok-head.ensures.found c.loop-at-test.true (sym c.is_dropped.ensures ∙ w.if-not-is_dropped.true) w.record_at.ensures
+            (rw (w.same-is, v.same-is, v.if-same.true, ← w.numbers-numbers.ensures) v.same_numbers-same.ensures))
         | else-same v ↦
             rw (c.span-at.ensures, w.n-is)
-            (compared_keep c.loop-at.invariant c.in_ok-head.ensures.found c.loop-at-test.true (sym c.is_dropped.ensures ∙ w.if-not-is_dropped.true) refl
+            (compared_keep c.loop-at.invariant c.in_ok-head.ensures.found c.loop-at-test.true (sym c.is_dropped.ensures ∙ w.if-not-is_dropped.true) w.record_at.ensures
             (rw (w.same-is, v.same-is, v.if-same.false)))
       ]
       | else-not-is_dropped w ↦
