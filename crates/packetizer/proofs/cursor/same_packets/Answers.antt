@@ -55,8 +55,8 @@ pub returns-else-same_record : goal.returns-else-same_record
 returns-else-same_record c =
     let of : List ℕ = sizes (obus_in c.args.obus.now) in
     let planned : List PacketMetadata = plan_of c.args.mtu (of) in
-    compared_other (planned) c.args.plan.now _
-    (passed_other c.loop-obu.invariant c.next_packet-next.ensures (sym c.same_record.ensures ∙ c.if-same_record.false))
+    rw c.into.ensures (compared_other (planned) c.args.plan.now _
+    (passed_other c.loop-obu.invariant c.next_packet-next.ensures (sym c.same_record.ensures ∙ c.if-same_record.false)))
 
 pub returns : goal.returns
 returns c =
