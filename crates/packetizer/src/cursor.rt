@@ -85,7 +85,7 @@ fn next_packet(obus: &[u32], room: u32, obu: usize, from: u32, start: u32) -> Ne
         let next = from + room;
         return Next {
             packet: packet::alone_in_packet(i, from, room, start),
-            obu: obu,
+            obu,
             from: next,
         };
     }
@@ -108,15 +108,7 @@ fn same_record(plan: &[u32], n: usize, p: PacketMetadata) -> bool
     requires { n ≤ unit_limit }
     ensures { result ≡ is_front (record_numbers p) (drop (n * plan_numbers) plan.now) }
 {
-    let numbers = [
-        p.first_obu_index,
-        p.num_obu_elements,
-        p.first_obu_offset,
-        p.last_obu_size,
-        p.packet_size,
-        p.payload_start,
-    ];
-    base::same_numbers(plan, n * PLAN_NUMBERS, &numbers)
+    base::same_numbers(plan, n * PLAN_NUMBERS, &p.numbers())
 }
 
 // Whether a plan begins with the records of these OBUs: how many there are, or 31.

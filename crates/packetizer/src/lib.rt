@@ -12,7 +12,7 @@ ghost use Rattle.packetizer.specs.Call.{sizes, to_plan, leaves, plan_unit, same_
 ghost use Rattle.base.specs.Answers.{paper_at};
 ghost use Rattle.packetizer.specs.Paper.{recorded};
 ghost use Rattle.packetizer.specs.Inside.{Plannable, Closable, Closed};
-ghost use Rattle.packetizer.specs.Records.{plan_numbers, packets_in, no_packet};
+ghost use Rattle.packetizer.specs.Records.{plan_numbers, record_numbers, packets_in, no_packet};
 
 use base::{Refusal, RefusedAt};
 
@@ -42,6 +42,22 @@ pub struct PacketMetadata {
     pub payload_start: u32,
 }
 
+impl PacketMetadata {
+    // The numbers of its record.
+    fn numbers(self) -> [u32; PLAN_NUMBERS]
+        ensures { result ≡ record_numbers self }
+    {
+        [
+            self.first_obu_index,
+            self.num_obu_elements,
+            self.first_obu_offset,
+            self.last_obu_size,
+            self.packet_size,
+            self.payload_start,
+        ]
+    }
+}
+
 // What a call plans.
 #[derive(Clone, Copy)]
 pub struct Planned {
@@ -62,15 +78,7 @@ fn put_record(plan: &mut [u32], n: usize, p: PacketMetadata, store: bool)
     ensures { plan.new ≡ recorded store plan.old n (p ∷ []) }
 {
     if store {
-        let numbers = [
-            p.first_obu_index,
-            p.num_obu_elements,
-            p.first_obu_offset,
-            p.last_obu_size,
-            p.packet_size,
-            p.payload_start,
-        ];
-        base::put_numbers(plan, n * PLAN_NUMBERS, &numbers);
+        base::put_numbers(plan, n * PLAN_NUMBERS, &p.numbers());
     }
 }
 

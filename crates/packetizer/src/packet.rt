@@ -1,5 +1,5 @@
 // One packet while it is filled: what an element costs and needs, the largest fragment, the packet with an element more.
-ghost use Rattle.std.specs.Prelude.{◌≡◌, ◌+◌, ◌≤◌, min};
+ghost use Rattle.std.specs.Prelude.{◌≡◌, ◌+◌, ◌≤◌};
 ghost use Rattle.obu.specs.Unit.{unit_limit};
 ghost use Rattle.packetizer.specs.Fragment.{Largest};
 ghost use Rattle.packetizer.specs.Plan.{new_packet, charge_of, is_full, charged, need_of, with_element, fragment_of, alone, start_after, start_limit, cut_at};
@@ -78,12 +78,8 @@ pub fn charge(p: PacketMetadata) -> PacketMetadata
     ensures { result ≡ charged p }
 {
     PacketMetadata {
-        first_obu_index: p.first_obu_index,
-        num_obu_elements: p.num_obu_elements,
-        first_obu_offset: p.first_obu_offset,
-        last_obu_size: p.last_obu_size,
         packet_size: p.packet_size + additional_bytes_for_previous_obu_element(p),
-        payload_start: p.payload_start,
+        ..p
     }
 }
 
@@ -106,12 +102,10 @@ pub fn with_element(p: PacketMetadata, n: u32, need: u32) -> PacketMetadata
     ensures { result ≡ with_element p n }
 {
     PacketMetadata {
-        first_obu_index: p.first_obu_index,
         num_obu_elements: p.num_obu_elements + 1,
-        first_obu_offset: p.first_obu_offset,
         last_obu_size: n,
         packet_size: p.packet_size + need,
-        payload_start: p.payload_start,
+        ..p
     }
 }
 
@@ -137,12 +131,6 @@ pub fn max_fragment_size(left: u32) -> u32
     left - field
 }
 
-fn smaller(a: u32, b: u32) -> u32
-    ensures { result ≡ min a b }
-{
-    if a < b { a } else { b }
-}
-
 // The first fragment of an OBU of `size` bytes.
 // Helper: the packet size must be within the room, and the OBU have a byte.
 pub fn first_fragment_size(room: u32, p: PacketMetadata, size: u32) -> u32
@@ -151,9 +139,9 @@ pub fn first_fragment_size(room: u32, p: PacketMetadata, size: u32) -> u32
 {
     let left = room - p.packet_size;
     if p.num_obu_elements >= MAX_NUM_OBUS_TO_OMIT_SIZE {
-        return smaller(size - 1, max_fragment_size(left));
+        return (size - 1).min(max_fragment_size(left));
     }
-    smaller(size - 1, left)
+    (size - 1).min(left)
 }
 
 // The packet with the first fragment in it; with none, as it was before the charge.

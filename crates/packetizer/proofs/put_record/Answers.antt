@@ -1,13 +1,19 @@
+use mathlib.Core.Path.{ap, ◌∙◌}
 use native.Mathlib.Omega.{arith}
 use mathlib.Core.List.{flat_map}
+use Prim.Native.Nat.{◌*◌}
+use lib.Seq.{sets}
+use Rattle.packetizer.specs.Records.{plan_numbers}
 use Rattle.packetizer.proofs.put_record.Goals as goal
 
 pub overflow_mul-n : goal.overflow_mul-n
 overflow_mul-n c = let r = c.requires c.if-store.true in omega arith
 
 pub put_numbers-requires : goal.put_numbers-requires
-put_numbers-requires c = let r = c.requires c.if-store.true in omega arith
+put_numbers-requires c = let r = c.requires c.if-store.true in
+    omega arith
 
 pub returns-then-store : goal.returns-then-store
 unfolding flat_map
-returns-then-store c = rw c.if-store.true c.put_numbers.ensures
+returns-then-store c =
+    rw c.if-store.true (c.put_numbers.ensures ∙ ap (sets c.args.plan.now (c.args.n * plan_numbers)) c.numbers.ensures)
