@@ -185,10 +185,7 @@ fn packetize(obus: &[u32], mtu: usize, plan: &mut [u32], store: bool) -> usize
         × (plan.new ≡ recorded store plan.old 0 (plan_of mtu (sizes (obus_in obus.now)))) }
 {
     let count = obus.len() / obu::OBU_NUMBERS;
-    if count == 0 {
-        return 0;
-    }
-    if mtu < LEAST_MTU {
+    if count == 0 || mtu < LEAST_MTU {
         return 0;
     }
     let room = (mtu - AGGREGATION_HEADER_SIZE) as u32;
@@ -196,11 +193,9 @@ fn packetize(obus: &[u32], mtu: usize, plan: &mut [u32], store: bool) -> usize
         packet: packet::new_packet(0, 0),
         records: 0,
     };
-    let mut i: usize = 0;
-    while i < count {
+    for i in 0..count {
         let o = obu::obu_at(obus, i);
         f = place_obu(plan, store, room, i as u32, o.size, f);
-        i += 1;
     }
     put_record(plan, f.records, f.packet, store);
     f.records + 1

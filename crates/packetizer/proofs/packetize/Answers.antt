@@ -2,6 +2,7 @@ use mathlib.Core.Path.{◌≡◌, refl, sym, ap, ◌∙◌}
 use Prim.Native.Nat.{ℕ, ◌-◌, ◌*◌, ◌≤◌, ◌<◌}
 use native.Mathlib.Omega.{arith}
 use mathlib.Core.Bool.{true}
+use mathlib.Core.Logic.{⊎_elim}
 use mathlib.Core.List.{List, []}
 use lib.ListN.{length, get_or}
 use Rattle.obu.specs.Unit.{unit_limit}
@@ -22,14 +23,8 @@ use Rattle.packetizer.proofs.packetize.Goals as goal
 pub returns-then-count-eq0 : goal.returns-then-count-eq0
 returns-then-count-eq0 c =
     let of : List ℕ = sizes (obus_in c.args.obus.now) in
-    let none : plan_of c.args.mtu (of) ≡ [] → (0 ≡ length (plan_of c.args.mtu (of))) × (c.args.plan.now ≡ recorded c.args.store c.args.plan.now 0 (plan_of c.args.mtu (of))) = λ e. rw e (refl, recorded_none c.args.store c.args.plan.now 0) in
-    none (plan_none c.args.mtu (of) (sizes_count c.args.obus.now ∙ c.if-count-eq0.true))
-
-pub returns-then-mtu-lt-LEAST_MTU : goal.returns-then-mtu-lt-LEAST_MTU
-returns-then-mtu-lt-LEAST_MTU c =
-    let of : List ℕ = sizes (obus_in c.args.obus.now) in
-    let none : plan_of c.args.mtu (of) ≡ [] → (0 ≡ length (plan_of c.args.mtu (of))) × (c.args.plan.now ≡ recorded c.args.store c.args.plan.now 0 (plan_of c.args.mtu (of))) = λ e. rw e (refl, recorded_none c.args.store c.args.plan.now 0) in
-    none (plan_low c.args.mtu (of) c.if-mtu-lt-LEAST_MTU.true)
+    let none : plan_of c.args.mtu of ≡ [] = ⊎_elim (λ e. plan_none c.args.mtu of (sizes_count c.args.obus.now ∙ e)) (λ e. plan_low c.args.mtu of e.1) c.then-count-eq0.either in
+    rw none (refl, recorded_none c.args.store c.args.plan.now 0)
 
 pub loop-i-init : goal.loop-i-init
 loop-i-init c = placing_first c.new_packet.ensures
@@ -55,12 +50,6 @@ place_obu-f-requires c =
     let l = inside in
     let s = c.requires in
     rw (size) (record { num_obu_elements_bound = omega (arith, current_held _ _ _ _ v.invariant.current, s.some v.i l, total_each (of) v.i, s.total, s.most, least); closable = placing_asks v.invariant l (few) (near) (room) })
-
-pub overflow_add-i : goal.overflow_add-i
-overflow_add-i c = omega (arith, c.loop-i-test.true)
-
-pub loop-i-smaller : goal.loop-i-smaller
-loop-i-smaller c = omega (arith, c.loop-i-test.true)
 
 pub loop-i-preserved : goal.loop-i-preserved
 loop-i-preserved c =
