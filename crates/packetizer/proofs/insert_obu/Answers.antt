@@ -7,26 +7,11 @@ use Rattle.packetizer.proofs.Starts.{spread_lined}
 use Rattle.packetizer.proofs.Placing.{insert_whole, insert_cut, fragment_below, filling_stored, closing_room, closing_near, closing_asks, closing_stored}
 use Rattle.packetizer.proofs.insert_obu.Goals as goal
 
-pub overflow_sub-room : goal.overflow_sub-room
-overflow_sub-room c =
-    let told : (c.charge-q.result.packet_size ≡ c.args.f.packet.packet_size + charge_of c.args.f.packet) × (c.charge-q.result.num_obu_elements ≡ c.args.f.packet.num_obu_elements) = (ap (λ (q : PacketMetadata). q.packet_size) c.charge-q.ensures, ap (λ (q : PacketMetadata). q.num_obu_elements) c.charge-q.ensures) in
-    omega (arith, told, c.requires.num_obu_elements_bound)
-
-pub with_element-requires : goal.with_element-requires
-with_element-requires c =
-    let told : (c.charge-q.result.packet_size ≡ c.args.f.packet.packet_size + charge_of c.args.f.packet) × (c.charge-q.result.num_obu_elements ≡ c.args.f.packet.num_obu_elements) = (ap (λ (q : PacketMetadata). q.packet_size) c.charge-q.ensures, ap (λ (q : PacketMetadata). q.num_obu_elements) c.charge-q.ensures) in
-    (omega (arith, c.requires.num_obu_elements_bound), omega (arith, told, c.requires.num_obu_elements_bound), omega (arith, told, c.requires.num_obu_elements_bound), c.required_bytes-need.ensures)
-
 pub returns-then-need-room : goal.returns-then-need-room
 returns-then-need-room c = let a = c.args in
     rw c.with_element.ensures
     (filling_stored (insert_whole a.room a.i a.size a.f.packet c.charge-q.result c.charge-q.ensures
     (omega (arith, c.required_bytes-need.ensures, c.if-need-room.true))))
-
-pub first_fragment_size-n-requires : goal.first_fragment_size-n-requires
-first_fragment_size-n-requires c =
-    let told : (c.charge-q.result.packet_size ≡ c.args.f.packet.packet_size + charge_of c.args.f.packet) × (c.charge-q.result.num_obu_elements ≡ c.args.f.packet.num_obu_elements) = (ap (λ (q : PacketMetadata). q.packet_size) c.charge-q.ensures, ap (λ (q : PacketMetadata). q.num_obu_elements) c.charge-q.ensures) in
-    omega (arith, told, c.requires.num_obu_elements_bound)
 
 pub cut_at-cut-requires : goal.cut_at-cut-requires
 cut_at-cut-requires c =

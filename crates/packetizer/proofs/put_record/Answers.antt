@@ -6,13 +6,6 @@ use lib.Seq.{sets}
 use Rattle.packetizer.specs.Records.{plan_numbers}
 use Rattle.packetizer.proofs.put_record.Goals as goal
 
-pub overflow_mul-n : goal.overflow_mul-n
-overflow_mul-n c = let r = c.requires c.if-store.true in omega arith
-
-pub put_numbers-requires : goal.put_numbers-requires
-put_numbers-requires c = let r = c.requires c.if-store.true in
-    omega arith
-
 pub returns-then-store : goal.returns-then-store
 unfolding flat_map
 returns-then-store c =

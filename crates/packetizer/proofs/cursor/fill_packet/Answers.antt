@@ -15,24 +15,12 @@ use Rattle.packetizer.proofs.Turns.{sizes_count, size_at}
 use Rattle.packetizer.proofs.Cursors.{begins_with, fill_last, fill_full, fill_charged, fill_whole, fill_cut}
 use Rattle.packetizer.proofs.cursor.fill_packet.Goals as goal
 
-pub loop-i-init : goal.loop-i-init
-loop-i-init c = (refl, c.requires.fillable)
-
-pub is_full-requires : goal.is_full-requires
-is_full-requires c = c.loop-i.invariant.1.fits
-
 pub returns-then-is_full : goal.returns-then-is_full
 returns-then-is_full c =
     let of : List ℕ = sizes (obus_in c.args.obus.now) in
     let inside : c.loop-i.i < length (of) = omega (arith, c.loop-i-test.true, sizes_count c.args.obus.now) in
     begins_with c.loop-i.invariant.0
     (fill_full c.requires.walkable c.loop-i.invariant.1 (inside) refl (sym c.is_full.ensures ∙ c.if-is_full.true))
-
-pub obu_at-size-requires : goal.obu_at-size-requires
-obu_at-size-requires c = omega (arith, c.loop-i-test.true)
-
-pub charge-q-requires : goal.charge-q-requires
-charge-q-requires c = omega (arith, c.loop-i.invariant.1.fits, c.requires.walkable.most)
 
 pub required_bytes-need-requires : goal.required_bytes-need-requires
 required_bytes-need-requires c =
@@ -61,12 +49,6 @@ with_element-p-requires c =
     let charged : (c.charge-q.result.packet_size + 1 ≤ c.args.room) × (c.charge-q.result.num_obu_elements ≤ c.charge-q.result.packet_size) = fill_charged c.requires.walkable c.loop-i.invariant.1 (inside) (size) c.charge-q.ensures (free) in
     let m = c.requires.walkable.most in
     ((small).1, omega (arith, charged), omega (arith, charged), c.required_bytes-need.ensures)
-
-pub overflow_add-i : goal.overflow_add-i
-overflow_add-i c = omega (arith, c.loop-i-test.true)
-
-pub loop-i-smaller : goal.loop-i-smaller
-loop-i-smaller c = omega (arith, c.loop-i-test.true)
 
 pub loop-i-preserved : goal.loop-i-preserved
 loop-i-preserved c =

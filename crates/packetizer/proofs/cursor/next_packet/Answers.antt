@@ -21,9 +21,6 @@ overflow_cast-i c =
     let few : length (of) ≤ unit_limit = omega (arith, total_count (of) c.requires.walkable.some, c.requires.walkable.total) in
     omega (arith, few, c.requires.obu_in_bounds.0)
 
-pub fill_packet-f-requires : goal.fill_packet-f-requires
-fill_packet-f-requires c = record { walkable = c.requires.walkable; fillable = rw c.new_packet.ensures (record { within = omega (arith, c.requires.obu_in_bounds.0); few = omega arith; fits = omega arith }) }
-
 pub returns-then-from-eq0 : goal.returns-then-from-eq0
 returns-then-from-eq0 c =
     let of : List ℕ = sizes (obus_in c.args.obus.now) in
@@ -36,13 +33,6 @@ returns-then-from-eq0 c =
 
 pub obu_at-requires : goal.obu_at-requires
 obu_at-requires c = omega (arith, c.requires.obu_in_bounds.0, sizes_count c.args.obus.now)
-
-pub overflow_sub-left : goal.overflow_sub-left
-overflow_sub-left c =
-    let of : List ℕ = sizes (obus_in c.args.obus.now) in
-    let goes : c.args.from < get_or (of) c.args.obu 0 = (c.requires.obu_in_bounds.1.inside c.if-from-eq0.false).1 in
-    let size : c.obu_at.result.size ≡ get_or (of) c.args.obu 0 = ap (λ (o : Obu). o.size) c.obu_at.ensures ∙ sym (size_at (obus_in c.args.obus.now) c.args.obu) in
-    omega (arith, goes, size)
 
 pub returns-then-room-left : goal.returns-then-room-left
 returns-then-room-left c =
@@ -57,13 +47,6 @@ overflow_add-obu c =
     let of : List ℕ = sizes (obus_in c.args.obus.now) in
     let few : length (of) ≤ unit_limit = omega (arith, total_count (of) c.requires.walkable.some, c.requires.walkable.total) in
     omega (arith, few, c.requires.obu_in_bounds.0)
-
-pub fill_packet-f-requires-2 : goal.fill_packet-f-requires-2
-fill_packet-f-requires-2 c =
-    let of : List ℕ = sizes (obus_in c.args.obus.now) in
-    let goes : c.args.from < get_or (of) c.args.obu 0 = (c.requires.obu_in_bounds.1.inside c.if-from-eq0.false).1 in
-    let size : c.obu_at.result.size ≡ get_or (of) c.args.obu 0 = ap (λ (o : Obu). o.size) c.obu_at.ensures ∙ sym (size_at (obus_in c.args.obus.now) c.args.obu) in
-    record { walkable = c.requires.walkable; fillable = rw c.alone_in_packet-2.ensures (record { within = omega (arith, c.requires.obu_in_bounds.0); few = omega (arith, goes, size); fits = omega (arith, c.if-room-left.false) }) }
 
 pub returns : goal.returns
 returns c =

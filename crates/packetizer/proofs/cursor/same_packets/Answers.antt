@@ -17,9 +17,6 @@ returns-then-mtu-lt-LEAST_MTU c =
     let planned : List PacketMetadata = plan_of c.args.mtu (of) in
     compared_same (planned) c.args.plan.now (sym (obus_count c.args.obus.now)) (low_same (of) c.args.plan.now c.if-mtu-lt-LEAST_MTU.true)
 
-pub overflow_cast-room : goal.overflow_cast-room
-overflow_cast-room c = omega (arith, c.requires.most)
-
 pub loop-obu-init : goal.loop-obu-init
 loop-obu-init c =
     let least : least_mtu ≤ c.args.mtu = omega (arith, c.if-mtu-lt-LEAST_MTU.false) in
@@ -44,9 +41,6 @@ pub overflow_add-n : goal.overflow_add-n
 overflow_add-n c =
     let least : least_mtu ≤ c.args.mtu = omega (arith, c.if-mtu-lt-LEAST_MTU.false) in
     omega (arith, passed_few c.loop-obu.invariant c.next_packet-next.ensures (least) c.requires)
-
-pub loop-obu-smaller : goal.loop-obu-smaller
-loop-obu-smaller c = rw c.start_after-start.ensures (passed_less c.loop-obu.invariant c.next_packet-next.ensures)
 
 pub loop-obu-preserved : goal.loop-obu-preserved
 loop-obu-preserved c = rw c.start_after-start.ensures (passed_next c.loop-obu.invariant c.next_packet-next.ensures (sym c.same_record.ensures ∙ c.if-same_record.true))
