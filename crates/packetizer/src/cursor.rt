@@ -30,9 +30,8 @@ fn fill_packet(obus: &[u32], room: u32, first: usize, begun: PacketMetadata) -> 
         result.packet result.obu result.from }
 {
     let count = obus.len() / obu::OBU_NUMBERS;
-    let mut i = first;
     let mut p = begun;
-    while i < count {
+    for i in first..count {
         if packet::is_full(room, p) {
             return Next {
                 packet: p,
@@ -43,10 +42,7 @@ fn fill_packet(obus: &[u32], room: u32, first: usize, begun: PacketMetadata) -> 
         let size = obu::obu_at(obus, i).size;
         let q = packet::charge(p);
         let need = packet::required_bytes(q, size);
-        if need < room - q.packet_size {
-            p = packet::with_element(q, size, need);
-            i += 1;
-        } else {
+        if need >= room - q.packet_size {
             let n = packet::first_fragment_size(room, q, size);
             return Next {
                 packet: packet::cut_at(p, q, n),
@@ -54,10 +50,11 @@ fn fill_packet(obus: &[u32], room: u32, first: usize, begun: PacketMetadata) -> 
                 from: n,
             };
         }
+        p = packet::with_element(q, size, need);
     }
     Next {
         packet: p,
-        obu: i,
+        obu: count,
         from: 0,
     }
 }
@@ -132,14 +129,13 @@ pub fn same_packets(obus: &[u32], mtu: usize, plan: &[u32]) -> Result<Planned, R
     let mut n: usize = 0;
     while obu < count {
         let next = next_packet(obus, room, obu, from, start);
-        if same_record(plan, n, next.packet) {
-            obu = next.obu;
-            from = next.from;
-            start = packet::start_after(next.packet);
-            n += 1;
-        } else {
+        if !same_record(plan, n, next.packet) {
             return Err(Refusal::ListsDiffer.into());
         }
+        obu = next.obu;
+        from = next.from;
+        start = packet::start_after(next.packet);
+        n += 1;
     }
     Ok(Planned {
         obus: count,

@@ -1,5 +1,4 @@
 use mathlib.Core.Path.{ap, ◌∙◌}
-use native.Mathlib.Omega.{arith}
 use mathlib.Core.List.{flat_map}
 use Prim.Native.Nat.{◌*◌}
 use lib.Seq.{sets}

@@ -1,5 +1,5 @@
 use native.Mathlib.Omega.{arith}
-use Rattle.packetizer.proofs.Spreading.{spreading_first, spreading_few, spreading_room, spreading_near, spreading_next, spreading_end}
+use Rattle.packetizer.proofs.Spreading.{spreading_first, spreading_room, spreading_near, spreading_next, spreading_end}
 use Rattle.packetizer.proofs.spread_obu.Goals as goal
 
 pub loop-offset-init : goal.loop-offset-init

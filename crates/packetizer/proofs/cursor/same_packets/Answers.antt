@@ -8,7 +8,7 @@ use Rattle.packetizer.specs.Plan.{least_mtu, plan_of}
 use Rattle.packetizer.specs.Call.{sizes}
 use Rattle.packetizer.specs.declared.PacketMetadata.{PacketMetadata}
 use Rattle.packetizer.proofs.Turns.{sizes_count}
-use Rattle.packetizer.proofs.Comparing.{low_same, passed_first, walkable, passed_less, passed_few, passed_near, passed_next, passed_other, passed_end, compared_same, compared_other}
+use Rattle.packetizer.proofs.Comparing.{low_same, passed_first, walkable, passed_few, passed_near, passed_next, passed_other, passed_end, compared_same, compared_other}
 use Rattle.packetizer.proofs.cursor.same_packets.Goals as goal
 
 pub returns-then-mtu-lt-LEAST_MTU : goal.returns-then-mtu-lt-LEAST_MTU
@@ -43,14 +43,14 @@ overflow_add-n c =
     omega (arith, passed_few c.loop-obu.invariant c.next_packet-next.ensures (least) c.requires)
 
 pub loop-obu-preserved : goal.loop-obu-preserved
-loop-obu-preserved c = rw c.start_after-start.ensures (passed_next c.loop-obu.invariant c.next_packet-next.ensures (sym c.same_record.ensures ∙ c.if-same_record.true))
+loop-obu-preserved c = rw c.start_after-start.ensures (passed_next c.loop-obu.invariant c.next_packet-next.ensures (sym c.same_record.ensures ∙ c.if-not-same_record.false))
 
-pub returns-else-same_record : goal.returns-else-same_record
-returns-else-same_record c =
+pub returns-then-not-same_record : goal.returns-then-not-same_record
+returns-then-not-same_record c =
     let of : List ℕ = sizes (obus_in c.args.obus.now) in
     let planned : List PacketMetadata = plan_of c.args.mtu (of) in
     rw c.into.ensures (compared_other (planned) c.args.plan.now _
-    (passed_other c.loop-obu.invariant c.next_packet-next.ensures (sym c.same_record.ensures ∙ c.if-same_record.false)))
+    (passed_other c.loop-obu.invariant c.next_packet-next.ensures (sym c.same_record.ensures ∙ c.if-not-same_record.true)))
 
 pub returns : goal.returns
 returns c =
