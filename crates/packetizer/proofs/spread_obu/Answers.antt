@@ -3,18 +3,18 @@ use Rattle.packetizer.proofs.Spreading.{spreading_first, spreading_room, spreadi
 use Rattle.packetizer.proofs.spread_obu.Goals as goal
 
 pub loop-offset-init : goal.loop-offset-init
-loop-offset-init c = spreading_first (omega arith)
+loop-offset-init g c = spreading_first (omega arith)
 
-pub put_record-requires : goal.put_record-requires
-put_record-requires c = spreading_room c.loop-offset.invariant c.requires.closable c.loop-offset-test.true
+pub put-requires : goal.put-requires
+put-requires g c = spreading_room c.loop-offset.invariant c.requires.closable c.loop-offset-test.true
 
 pub start_after-next-requires : goal.start_after-next-requires
-start_after-next-requires c = rw c.alone_in_packet-p.ensures (spreading_near c.loop-offset.invariant c.requires.closable c.loop-offset-test.true)
+start_after-next-requires g c = rw c.alone_in_packet-p.ensures (spreading_near c.loop-offset.invariant c.requires.closable c.loop-offset-test.true)
 
 pub returns : goal.returns
-returns c = spreading_end c.loop-offset.invariant c.loop-offset-test.false c.alone_in_packet.ensures
+returns g c = spreading_end c.loop-offset.invariant c.loop-offset-test.false c.alone_in_packet.ensures
 
 pub loop-offset-preserved : goal.loop-offset-preserved
-loop-offset-preserved c =
+loop-offset-preserved g c =
     rw c.start_after-next.ensures
-    (spreading_next c.loop-offset.invariant c.requires.le_room.0 c.loop-offset-test.true c.put_record.auto.plan c.alone_in_packet-p.ensures c.put_record.ensures)
+    (spreading_next c.loop-offset.invariant c.requires.le_room.0 c.loop-offset-test.true c.put.auto.plan c.alone_in_packet-p.ensures c.put.ensures)
