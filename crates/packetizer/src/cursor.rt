@@ -63,7 +63,8 @@ fn fill_packet(obus: &[u32], room: u32, first: usize, begun: PacketMetadata) -> 
 // goes from packet to packet keeps its place in registers.
 fn next_packet(obus: &[u32], room: u32, obu: usize, from: u32, start: u32) -> Next
     requires walkable { Walkable room (sizes (obus_in obus.now)) }
-    requires obu_in_bounds { (obu < length (sizes (obus_in obus.now))) × Starts (sizes (obus_in obus.now)) obu from }
+    requires inside { obu < length (sizes (obus_in obus.now)) }
+    requires starts { Starts (sizes (obus_in obus.now)) obu from }
     ensures { Begins room (sizes (obus_in obus.now)) (to_come room (sizes (obus_in obus.now)) obu from start)
         result.packet result.obu result.from }
 {

@@ -11,7 +11,7 @@ ghost use Rattle.packetizer.specs.Plan.{charge_of, spread, insert, place, plan_o
 ghost use Rattle.packetizer.specs.Call.{sizes, to_plan, leaves, plan_unit, same_plan};
 ghost use Rattle.base.specs.Answers.{paper_at};
 ghost use Rattle.packetizer.specs.Paper.{recorded};
-ghost use Rattle.packetizer.specs.Inside.{Plannable, Closable, Closed};
+ghost use Rattle.packetizer.specs.Inside.{Plannable, Placeable, Closable, Closed};
 ghost use Rattle.packetizer.specs.Records.{plan_numbers, record_numbers, packets_in, no_packet};
 
 use base::{Refusal, RefusedAt};
@@ -129,7 +129,9 @@ fn spread_obu<R: Recording>(
     start: u32,
     records: usize,
 ) -> Filling
-    requires le_room { (1 ≤ room) × (from < size) × (size ≤ unit_limit) }
+    requires some { 1 ≤ room }
+    requires inside { from < size }
+    requires small { size ≤ unit_limit }
     requires closable { Closable R.stored plan.old records (spread size room i size from start) }
     ensures { Closed R.stored plan.old records (spread size room i size from start) result.packet result.records plan.new }
 {
@@ -151,8 +153,8 @@ fn spread_obu<R: Recording>(
 
 // Puts the OBU i into the current packet, whole or in fragments.
 fn insert_obu<R: Recording>(plan: &mut [u32], room: u32, i: u32, size: u32, f: Filling) -> Filling
-    requires num_obu_elements_bound { (f.packet.num_obu_elements ≤ f.packet.packet_size) × (f.packet.packet_size + charge_of f.packet ≤ room)
-        × (1 ≤ room) × (room ≤ unit_limit) × (1 ≤ size) × (size ≤ unit_limit) }
+    requires placeable { Placeable room size f.packet }
+    requires charged { f.packet.packet_size + charge_of f.packet ≤ room }
     requires closable { Closable R.stored plan.old f.records (insert room i size f.packet) }
     ensures { Closed R.stored plan.old f.records (insert room i size f.packet) result.packet result.records plan.new }
 {
@@ -174,8 +176,7 @@ fn insert_obu<R: Recording>(plan: &mut [u32], room: u32, i: u32, size: u32, f: F
 
 // Places the OBU i: in a new packet if the current one is full.
 fn place_obu<R: Recording>(plan: &mut [u32], room: u32, i: u32, size: u32, f: Filling) -> Filling
-    requires num_obu_elements_bound { (f.packet.num_obu_elements ≤ f.packet.packet_size) × (f.packet.packet_size ≤ room)
-        × (1 ≤ room) × (room ≤ unit_limit) × (1 ≤ size) × (size ≤ unit_limit) }
+    requires placeable { Placeable room size f.packet }
     requires closable { Closable R.stored plan.old f.records (place room i size f.packet) }
     ensures { Closed R.stored plan.old f.records (place room i size f.packet) result.packet result.records plan.new }
 {

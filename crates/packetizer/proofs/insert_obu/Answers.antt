@@ -25,7 +25,7 @@ pub cut_at-cut-requires : goal.cut_at-cut-requires
 cut_at-cut-requires g c =
     let told : (c.charge-q.result.packet_size ≡ c.args.f.packet.packet_size + charge_of c.args.f.packet) × (c.charge-q.result.num_obu_elements ≡ c.args.f.packet.num_obu_elements) = (ap (λ (q : PacketMetadata). q.packet_size) c.charge-q.ensures, ap (λ (q : PacketMetadata). q.num_obu_elements) c.charge-q.ensures) in
     let a = c.args in
-    omega (arith, told, c.requires.num_obu_elements_bound, c.first_fragment_size-n.ensures, fragment_below a.room c.charge-q.result a.size)
+    omega (arith, told, c.requires.placeable, c.requires.charged, c.first_fragment_size-n.ensures, fragment_below a.room c.charge-q.result a.size)
 
 pub put-requires : goal.put-requires
 put-requires g c = closing_room (cut g (goal.at.put-requires g c).After-cut_at-cut) c.requires.closable
@@ -38,7 +38,9 @@ start_after-start-requires g c = let a = c.args in
 pub spread_obu-requires : goal.spread_obu-requires
 spread_obu-requires g c = let a = c.args in
     record {
-      le_room = omega (arith, c.requires.num_obu_elements_bound, c.first_fragment_size-n.ensures, fragment_below a.room c.charge-q.result a.size);
+      some = c.requires.placeable.large;
+      inside = omega (arith, c.requires.placeable, c.first_fragment_size-n.ensures, fragment_below a.room c.charge-q.result a.size);
+      small = c.requires.placeable.small;
       closable = rw c.start_after-start.ensures (closing_asks (cut g (goal.at.spread_obu-requires g c).After-cut_at-cut) c.requires.closable _ c.put.auto.plan);
     }
 

@@ -72,8 +72,16 @@ place_obu-f-requires g c =
     let l = inside g (goal.at.place_obu-f-requires g c).After-obu_at-o in
     let v = c.loop-i in
     let s = c.requires in
+    let held = current_held _ _ _ _ v.invariant.current in
     rw (size g (goal.at.place_obu-f-requires g c).After-obu_at-o) (record {
-      num_obu_elements_bound = omega (arith, current_held _ _ _ _ v.invariant.current, s.some v.i l, total_each (sizes (obus_in c.args.obus.now)) v.i, s.total, s.most, least g b);
+      placeable = record {
+            large = omega (arith, least g b);
+            most = omega (arith, s.most);
+            some = s.some v.i l;
+            small = omega (arith, total_each (sizes (obus_in c.args.obus.now)) v.i, s.total);
+            few = held.0;
+            fits = held.1;
+          };
       closable = placing_asks v.invariant l (few g b) (near g b) (room g b);
     })
 

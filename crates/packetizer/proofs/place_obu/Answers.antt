@@ -24,9 +24,19 @@ start_after-start-requires g c = let a = c.args in
 pub insert_obu-requires : goal.insert_obu-requires
 insert_obu-requires g c = let a = c.args in
     let e = new g (goal.at.insert_obu-requires g c).After-new_packet in
+    let v = c.requires.placeable in
+    let size : c.new_packet.result.packet_size ≡ 0 = ap (λ (p : PacketMetadata). p.packet_size) e in
     let none : c.new_packet.result.num_obu_elements ≡ 0 = ap (λ (p : PacketMetadata). p.num_obu_elements) e in
     record {
-      num_obu_elements_bound = omega (arith, c.requires.num_obu_elements_bound, none, ap (λ (p : PacketMetadata). p.packet_size) e, charge_none c.new_packet.result none);
+      placeable = record {
+            large = v.large;
+            most = v.most;
+            some = v.some;
+            small = v.small;
+            few = omega (arith, none, size);
+            fits = omega (arith, size);
+          };
+      charged = omega (arith, v.large, size, charge_none c.new_packet.result none);
       closable = closing_asks (place_new a.room a.i a.size a.f.packet _ e (sym c.if-is_full.ensures)) c.requires.closable _ c.put.auto.plan;
     }
 
@@ -38,7 +48,8 @@ returns-then-is_full g c = let a = c.args in
 pub insert_obu-requires-2 : goal.insert_obu-requires-2
 insert_obu-requires-2 g c = let a = c.args in
     record {
-      num_obu_elements_bound = omega (arith, c.requires.num_obu_elements_bound, one_more a.room a.f.packet (sym c.if-is_full.ensures));
+      placeable = c.requires.placeable;
+      charged = omega (arith, c.requires.placeable, one_more a.room a.f.packet (sym c.if-is_full.ensures));
       closable = rw (place_on a.room a.i a.size a.f.packet (sym c.if-is_full.ensures)) at c.requires.closable;
     }
 

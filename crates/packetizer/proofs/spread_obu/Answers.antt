@@ -17,4 +17,4 @@ returns g c = spreading_end c.loop-offset.invariant c.loop-offset-test.false c.a
 pub loop-offset-preserved : goal.loop-offset-preserved
 loop-offset-preserved g c =
     rw c.start_after-next.ensures
-    (spreading_next c.loop-offset.invariant c.requires.le_room.0 c.loop-offset-test.true c.put.auto.plan c.alone_in_packet-p.ensures c.put.ensures)
+    (spreading_next c.loop-offset.invariant c.requires.some c.loop-offset-test.true c.put.auto.plan c.alone_in_packet-p.ensures c.put.ensures)

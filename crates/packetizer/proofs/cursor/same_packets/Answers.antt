@@ -19,7 +19,8 @@ loop-obu-init c = passed_first c.if-mtu-lt-LEAST_MTU.false
 pub next_packet-next-requires : goal.next_packet-next-requires
 next_packet-next-requires c = record {
   walkable = walkable c.if-mtu-lt-LEAST_MTU.false c.requires;
-  obu_in_bounds = (omega (arith, c.loop-obu-test.true, sizes_count c.args.obus.now), c.loop-obu.invariant.starts);
+  inside = omega (arith, c.loop-obu-test.true, sizes_count c.args.obus.now);
+      starts = c.loop-obu.invariant.starts;
 }
 
 pub same_record-requires : goal.same_record-requires
