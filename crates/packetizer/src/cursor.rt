@@ -124,10 +124,10 @@ pub fn same_packets(obus: &[u32], mtu: usize, plan: &[u32]) -> Result<Planned, R
         });
     }
     let room = (mtu - AGGREGATION_HEADER_SIZE) as u32;
-    let mut obu: usize = 0;
-    let mut from: u32 = 0;
-    let mut start: u32 = 0;
-    let mut n: usize = 0;
+    let mut obu = 0;
+    let mut from = 0;
+    let mut start = 0;
+    let mut n = 0;
     while obu < count {
         let next = next_packet(obus, room, obu, from, start);
         if !same_record(plan, n, next.packet) {
