@@ -197,7 +197,7 @@ fn place_obu<R: Recording>(plan: &mut [u32], room: u32, i: u32, size: u32, f: Fi
     insert_obu::<R>(plan, room, i, size, f)
 }
 
-// Plans the OBUs of a list: how many packets there are.
+// Plans the OBUs of a list, and says how many packets there are.
 fn packetize<R: Recording>(obus: &[u32], mtu: usize, plan: &mut [u32]) -> usize
     requires { Plannable mtu (sizes (obus_in obus.now)) R.stored plan.old }
     ensures { (result ≡ length (plan_of mtu (sizes (obus_in obus.now))))
@@ -229,12 +229,12 @@ pub fn plan_unit(mtu: usize, unit: &[u8], obus: &mut [u32], plan: &mut [u32]) ->
         return Err(Refusal::MtuOverLimit.into());
     }
     let listed = obu::parse_obus(unit, obus)?;
-    let filled = listed.obus * obu::OBU_NUMBERS;
-    let packets = packetize::<Counted>(&obus[..filled], mtu, plan);
+    let filled = &obus[..listed.obus * obu::OBU_NUMBERS];
+    let packets = packetize::<Counted>(filled, mtu, &mut []);
     if plan.len() / PLAN_NUMBERS < packets {
         return Err(Refusal::PlanListFull.into());
     }
-    packetize::<Stored>(&obus[..filled], mtu, plan);
+    packetize::<Stored>(filled, mtu, plan);
     Ok(Planned {
         obus: listed.obus,
         packets,
@@ -249,6 +249,5 @@ pub fn same_plan(mtu: usize, unit: &[u8], obus: &[u32], plan: &[u32]) -> Result<
         return Err(Refusal::MtuOverLimit.into());
     }
     let kept = obu::same_list(unit, obus)?;
-    let own = kept.obus * obu::OBU_NUMBERS;
-    cursor::same_packets(&obus[..own], mtu, plan)
+    cursor::same_packets(&obus[..kept.obus * obu::OBU_NUMBERS], mtu, plan)
 }

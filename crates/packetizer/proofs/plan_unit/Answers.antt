@@ -1,4 +1,4 @@
-use mathlib.Core.Path.{◌≡◌, sym, ap, ap₂, ◌∙◌}
+use mathlib.Core.Path.{◌≡◌, refl, sym, ap, ◌∙◌}
 use Prim.Native.Nat.{ℕ, ◌*◌, ◌≤◌}
 use native.Mathlib.Omega.{arith}
 use mathlib.Core.Bool.{true, false, true≢false}
@@ -50,7 +50,7 @@ pub returns-then-plan-packets : goal.returns-then-plan-packets
 returns-then-plan-packets c = let a = c.args in
     let f = filled (goal.at.returns-then-plan-packets c).In_ok-listed in
     let n = count (goal.at.returns-then-plan-packets c).In_ok-listed c.packetize-packets.ensures.0 in
-    rw c.into-then-plan-packets.ensures (outcome_9 a.mtu a.unit.now a.obus.now a.plan.now c.if-mtu-gt-MTU_LIMIT.false _ f.after _ _ _ f.answer n (omega (arith, c.if-plan-packets.true, c.packetize-packets.auto.plan)) c.packetize-packets.ensures.1)
+    rw c.into-then-plan-packets.ensures (outcome_9 a.mtu a.unit.now a.obus.now a.plan.now c.if-mtu-gt-MTU_LIMIT.false _ f.after _ _ _ f.answer n c.if-plan-packets.true refl)
 
 pub packetize-requires : goal.packetize-requires
 packetize-requires c =
@@ -66,19 +66,12 @@ pub returns : goal.returns
 returns c = let a = c.args in
     let f = filled (goal.at.returns c).In_ok-listed in
     let n = count (goal.at.returns c).In_ok-listed c.packetize-packets.ensures.0 in
-    outcome_all a.mtu a.unit.now a.obus.now a.plan.now c.if-mtu-gt-MTU_LIMIT.false _ f.after _ _ _ f.answer n (omega (arith, c.if-plan-packets.false, c.packetize-packets.auto.plan))
-    (c.packetize.ensures.1 ∙ ap₂ (λ (x : List ℕ) (ps : List PacketMetadata). recorded true x 0 ps) c.packetize-packets.ensures.1 (plan_is (goal.at.returns c).In_ok-listed))
+    outcome_all a.mtu a.unit.now a.obus.now a.plan.now c.if-mtu-gt-MTU_LIMIT.false _ f.after _ _ _ f.answer n c.if-plan-packets.false
+    (c.packetize.ensures.1 ∙ ap (recorded true c.args.plan.now 0) (plan_is (goal.at.returns c).In_ok-listed))
 
-pub slice_bounds-packetize-end : goal.slice_bounds-packetize-end
-slice_bounds-packetize-end c = long (goal.at.slice_bounds-packetize-end c).In_ok-listed
+pub slice_bounds-filled-end : goal.slice_bounds-filled-end
+slice_bounds-filled-end c = long (goal.at.slice_bounds-filled-end c).In_ok-listed
 
-pub slice_bounds-packetize-end-2 : goal.slice_bounds-packetize-end-2
-slice_bounds-packetize-end-2 c =
-    sym (length-take-le _ _ (long (goal.at.slice_bounds-packetize-end-2 c).In_ok-listed))
-
-pub slice_bounds-packetize-end-3 : goal.slice_bounds-packetize-end-3
-slice_bounds-packetize-end-3 c = long (goal.at.slice_bounds-packetize-end-3 c).In_ok-listed
-
-pub slice_bounds-packetize-end-4 : goal.slice_bounds-packetize-end-4
-slice_bounds-packetize-end-4 c =
-    sym (length-take-le _ _ (long (goal.at.slice_bounds-packetize-end-4 c).In_ok-listed))
+pub slice_bounds-filled-end-2 : goal.slice_bounds-filled-end-2
+slice_bounds-filled-end-2 c =
+    sym (length-take-le _ _ (long (goal.at.slice_bounds-filled-end-2 c).In_ok-listed))

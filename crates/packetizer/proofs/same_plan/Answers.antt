@@ -18,9 +18,9 @@ pub returns-then-mtu-gt-MTU_LIMIT : goal.returns-then-mtu-gt-MTU_LIMIT
 returns-then-mtu-gt-MTU_LIMIT c = let a = c.args in
     rw c.into.ensures (same_1 a.mtu a.unit.now a.obus.now a.plan.now c.if-mtu-gt-MTU_LIMIT.true)
 
-pub overflow_mul-own : goal.overflow_mul-own
-overflow_mul-own c =
-    omega (arith, (same (goal.at.overflow_mul-own c).In_ok-kept).long)
+pub overflow_mul-kept : goal.overflow_mul-kept
+overflow_mul-kept c =
+    omega (arith, (same (goal.at.overflow_mul-kept c).In_ok-kept).long)
 
 pub slice_bounds-same_packets-end : goal.slice_bounds-same_packets-end
 slice_bounds-same_packets-end c =
