@@ -93,9 +93,6 @@ module _ {mtu : ℕ} {sizes plan : List ℕ} {i o start n : ℕ} (w : Passed mtu
     split : plan_of mtu sizes ≡ w.done ++ (p ∷ rest)
     split = w.whole ∙ ap (λ (ps : List PacketMetadata). w.done ++ ps) b.first
 
-    pub passed_less : length rest < length (to_come (mtu - 1) sizes i o start)
-    passed_less = omega (arith, ap length b.first)
-
     -- it is one of the plan's: it is counted, and the next one starts where it ends
     module _ (m : least_mtu ≤ mtu) (v : Comparable mtu sizes) where
       there : n < length (plan_of mtu sizes)

@@ -188,3 +188,14 @@ shifting_end r i s h =
     (λ q. omega (arith, size_below 5 i (r - i) s.from (omega arith)))
     (omega (arith, size_above 5 (i - 1) (r - i + 1) (omega arith) (λ q. omega (arith, s.passed q))))
     (λ q. absurd (omega arith))
+
+pub largest_less : {r i : ℕ} → 1 ≤ i → i ≤ 5 → (1 < i → cap (i - 1) + (i - 1) ≤ r) → r < cap i + i → Largest r (r - i)
+largest_less {r} {i} s m p h =
+    split_on (ltb r 2)
+    (λ t.
+    let l : r < 2 = ltb-true r 2 t in
+    let z : r - i ≡ 0 = omega arith in
+    rw z (largest_none r (omega arith)))
+    (λ t.
+    let l : 2 ≤ r = ltb-false r 2 t in
+    shifting_end r i (record { from = s; most = m; two = l; passed = λ q. p (omega arith) }) h)

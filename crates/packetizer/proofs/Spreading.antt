@@ -71,11 +71,8 @@ module _ {store : Bool} {room i s from start records : ℕ} {l₀ l : List ℕ} 
   next_count_lem : room < s - o → n + 1 ≤ records + length (spread s room i s from start).closed
   next_count_lem h = omega (arith, ap length (next_closed h), length-append w.done (middle ∷ after.closed))
 
-  -- it is one of the plan's: it is counted and can be stored, and what comes after it starts where it ends
+  -- it is one of the plan's: it can be stored, and what comes after it starts where it ends
   module _ (c : Closable store l₀ records (spread s room i s from start)) (h : room < s - o) where
-    pub spreading_few : n + 1 ≤ unit_limit
-    spreading_few = omega (arith, c.few, next_count_lem h)
-
     pub spreading_room : store ≡ true → (n + 1) * plan_numbers ≤ length l
     spreading_room t = omega (arith, c.room t, next_count_lem h, w.kept)
 

@@ -16,6 +16,15 @@ pub record Plannable (mtu : ℕ) (sizes : List ℕ) (store : Bool) (plan : List 
   pub total : total_size sizes ≤ unit_limit
   pub room : store ≡ true → length (plan_of mtu sizes) * plan_numbers ≤ length plan
 
+-- an OBU of s bytes can be placed where p is the current packet
+pub record Placeable (room s : ℕ) (p : PacketMetadata) : Type 0 where
+  pub large : 1 ≤ room
+  pub most : room ≤ unit_limit
+  pub some : 1 ≤ s
+  pub small : s ≤ unit_limit
+  pub few : p.num_obu_elements ≤ p.packet_size
+  pub fits : p.packet_size ≤ room
+
 -- what an OBU closes, after n records: they can be counted, their starts fit, and where they are stored there is room for them
 pub record Closable (store : Bool) (plan : List ℕ) (n : ℕ) (x : Placing) : Type 0 where
   pub few : n + length x.closed ≤ unit_limit

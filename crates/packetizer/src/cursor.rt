@@ -30,9 +30,8 @@ fn fill_packet(obus: &[u32], room: u32, first: usize, begun: PacketMetadata) -> 
         result.packet result.obu result.from }
 {
     let count = obus.len() / obu::OBU_NUMBERS;
-    let mut i = first;
     let mut p = begun;
-    while i < count {
+    for i in first..count {
         if packet::is_full(room, p) {
             return Next {
                 packet: p,
@@ -43,10 +42,7 @@ fn fill_packet(obus: &[u32], room: u32, first: usize, begun: PacketMetadata) -> 
         let size = obu::obu_at(obus, i).size;
         let q = packet::charge(p);
         let need = packet::required_bytes(q, size);
-        if need < room - q.packet_size {
-            p = packet::with_element(q, size, need);
-            i += 1;
-        } else {
+        if need >= room - q.packet_size {
             let n = packet::first_fragment_size(room, q, size);
             return Next {
                 packet: packet::cut_at(p, q, n),
@@ -54,10 +50,11 @@ fn fill_packet(obus: &[u32], room: u32, first: usize, begun: PacketMetadata) -> 
                 from: n,
             };
         }
+        p = packet::with_element(q, size, need);
     }
     Next {
         packet: p,
-        obu: i,
+        obu: count,
         from: 0,
     }
 }
@@ -66,7 +63,8 @@ fn fill_packet(obus: &[u32], room: u32, first: usize, begun: PacketMetadata) -> 
 // goes from packet to packet keeps its place in registers.
 fn next_packet(obus: &[u32], room: u32, obu: usize, from: u32, start: u32) -> Next
     requires walkable { Walkable room (sizes (obus_in obus.now)) }
-    requires obu_in_bounds { (obu < length (sizes (obus_in obus.now))) × Starts (sizes (obus_in obus.now)) obu from }
+    requires inside { obu < length (sizes (obus_in obus.now)) }
+    requires starts { Starts (sizes (obus_in obus.now)) obu from }
     ensures { Begins room (sizes (obus_in obus.now)) (to_come room (sizes (obus_in obus.now)) obu from start)
         result.packet result.obu result.from }
 {
@@ -85,7 +83,7 @@ fn next_packet(obus: &[u32], room: u32, obu: usize, from: u32, start: u32) -> Ne
         let next = from + room;
         return Next {
             packet: packet::alone_in_packet(i, from, room, start),
-            obu: obu,
+            obu,
             from: next,
         };
     }
@@ -108,15 +106,7 @@ fn same_record(plan: &[u32], n: usize, p: PacketMetadata) -> bool
     requires { n ≤ unit_limit }
     ensures { result ≡ is_front (record_numbers p) (drop (n * plan_numbers) plan.now) }
 {
-    let numbers = [
-        p.first_obu_index,
-        p.num_obu_elements,
-        p.first_obu_offset,
-        p.last_obu_size,
-        p.packet_size,
-        p.payload_start,
-    ];
-    base::same_numbers(plan, n * PLAN_NUMBERS, &numbers)
+    base::same_numbers(plan, n * PLAN_NUMBERS, &p.numbers())
 }
 
 // Whether a plan begins with the records of these OBUs: how many there are, or 31.
@@ -134,20 +124,19 @@ pub fn same_packets(obus: &[u32], mtu: usize, plan: &[u32]) -> Result<Planned, R
         });
     }
     let room = (mtu - AGGREGATION_HEADER_SIZE) as u32;
-    let mut obu: usize = 0;
-    let mut from: u32 = 0;
-    let mut start: u32 = 0;
-    let mut n: usize = 0;
+    let mut obu = 0;
+    let mut from = 0;
+    let mut start = 0;
+    let mut n = 0;
     while obu < count {
         let next = next_packet(obus, room, obu, from, start);
-        if same_record(plan, n, next.packet) {
-            obu = next.obu;
-            from = next.from;
-            start = packet::start_after(next.packet);
-            n += 1;
-        } else {
+        if !same_record(plan, n, next.packet) {
             return Err(Refusal::ListsDiffer.into());
         }
+        obu = next.obu;
+        from = next.from;
+        start = packet::start_after(next.packet);
+        n += 1;
     }
     Ok(Planned {
         obus: count,

@@ -4,15 +4,15 @@
 mod packet; // packet.rt: one packet while it is filled
 mod cursor; // cursor.rt: packet after packet, compared with a lent plan
 
-ghost use Rattle.std.specs.Prelude.{◌≡◌, ◌+◌, ◌*◌, ◌≤◌, ◌<◌, true, ◌∷◌, [], length, get_or};
+ghost use Rattle.std.specs.Prelude.{◌≡◌, ◌+◌, ◌*◌, ◌≤◌, ◌<◌, Bool, true, false, ◌∷◌, [], length, get_or};
 ghost use Rattle.obu.specs.Unit.{unit_limit};
 ghost use Rattle.obu.specs.Records.{obus_in};
 ghost use Rattle.packetizer.specs.Plan.{charge_of, spread, insert, place, plan_of};
 ghost use Rattle.packetizer.specs.Call.{sizes, to_plan, leaves, plan_unit, same_plan};
 ghost use Rattle.base.specs.Answers.{paper_at};
 ghost use Rattle.packetizer.specs.Paper.{recorded};
-ghost use Rattle.packetizer.specs.Inside.{Plannable, Closable, Closed};
-ghost use Rattle.packetizer.specs.Records.{plan_numbers, packets_in, no_packet};
+ghost use Rattle.packetizer.specs.Inside.{Plannable, Placeable, Closable, Closed};
+ghost use Rattle.packetizer.specs.Records.{plan_numbers, record_numbers, packets_in, no_packet};
 
 use base::{Refusal, RefusedAt};
 
@@ -42,6 +42,22 @@ pub struct PacketMetadata {
     pub payload_start: u32,
 }
 
+impl PacketMetadata {
+    // The numbers of its record.
+    fn numbers(self) -> [u32; PLAN_NUMBERS]
+        ensures { result ≡ record_numbers self }
+    {
+        [
+            self.first_obu_index,
+            self.num_obu_elements,
+            self.first_obu_offset,
+            self.last_obu_size,
+            self.packet_size,
+            self.payload_start,
+        ]
+    }
+}
+
 // What a call plans.
 #[derive(Clone, Copy)]
 pub struct Planned {
@@ -56,21 +72,33 @@ struct Filling {
     records: usize,
 }
 
-// Writes the numbers of record `n`, where told to.
-fn put_record(plan: &mut [u32], n: usize, p: PacketMetadata, store: bool)
-    requires { store ≡ true → (n + 1) * plan_numbers ≤ length plan.old }
-    ensures { plan.new ≡ recorded store plan.old n (p ∷ []) }
-{
-    if store {
-        let numbers = [
-            p.first_obu_index,
-            p.num_obu_elements,
-            p.first_obu_offset,
-            p.last_obu_size,
-            p.packet_size,
-            p.payload_start,
-        ];
-        base::put_numbers(plan, n * PLAN_NUMBERS, &numbers);
+// What becomes of the record of a closed packet.
+trait Recording {
+    ghost stored: { Bool };
+
+    // Takes record `n`.
+    fn put(plan: &mut [u32], n: usize, p: PacketMetadata)
+        requires { stored ≡ true → (n + 1) * plan_numbers ≤ length plan.old }
+        ensures { plan.new ≡ recorded stored plan.old n (p ∷ []) };
+}
+
+// It is counted, and no more.
+struct Counted;
+
+impl Recording for Counted {
+    ghost stored = { false };
+
+    fn put(_plan: &mut [u32], _n: usize, _p: PacketMetadata) {}
+}
+
+// It is stored in the plan.
+struct Stored;
+
+impl Recording for Stored {
+    ghost stored = { true };
+
+    fn put(plan: &mut [u32], n: usize, p: PacketMetadata) {
+        base::put_numbers(plan, n * PLAN_NUMBERS, &p.numbers());
     }
 }
 
@@ -92,9 +120,8 @@ pub fn packet_at(plan: &[u32], k: usize) -> PacketMetadata
 }
 
 // Spreads the OBU i from `from` on over new packets, the first of them at `start`: the last one is the current packet.
-fn spread_obu(
+fn spread_obu<R: Recording>(
     plan: &mut [u32],
-    store: bool,
     room: u32,
     i: u32,
     size: u32,
@@ -102,16 +129,18 @@ fn spread_obu(
     start: u32,
     records: usize,
 ) -> Filling
-    requires le_room { (1 ≤ room) × (from < size) × (size ≤ unit_limit) }
-    requires closable { Closable store plan.old records (spread size room i size from start) }
-    ensures { Closed store plan.old records (spread size room i size from start) result.packet result.records plan.new }
+    requires some { 1 ≤ room }
+    requires inside { from < size }
+    requires small { size ≤ unit_limit }
+    requires closable { Closable R.stored plan.old records (spread size room i size from start) }
+    ensures { Closed R.stored plan.old records (spread size room i size from start) result.packet result.records plan.new }
 {
     let mut n = records;
     let mut offset = from;
     let mut next = start;
     while room < size - offset {
         let p = packet::alone_in_packet(i, offset, room, next);
-        put_record(plan, n, p, store);
+        R::put(plan, n, p);
         n += 1;
         offset += room;
         next = packet::start_after(p);
@@ -123,11 +152,11 @@ fn spread_obu(
 }
 
 // Puts the OBU i into the current packet, whole or in fragments.
-fn insert_obu(plan: &mut [u32], store: bool, room: u32, i: u32, size: u32, f: Filling) -> Filling
-    requires num_obu_elements_bound { (f.packet.num_obu_elements ≤ f.packet.packet_size) × (f.packet.packet_size + charge_of f.packet ≤ room)
-        × (1 ≤ room) × (room ≤ unit_limit) × (1 ≤ size) × (size ≤ unit_limit) }
-    requires closable { Closable store plan.old f.records (insert room i size f.packet) }
-    ensures { Closed store plan.old f.records (insert room i size f.packet) result.packet result.records plan.new }
+fn insert_obu<R: Recording>(plan: &mut [u32], room: u32, i: u32, size: u32, f: Filling) -> Filling
+    requires placeable { Placeable room size f.packet }
+    requires charged { f.packet.packet_size + charge_of f.packet ≤ room }
+    requires closable { Closable R.stored plan.old f.records (insert room i size f.packet) }
+    ensures { Closed R.stored plan.old f.records (insert room i size f.packet) result.packet result.records plan.new }
 {
     let p = f.packet;
     let q = packet::charge(p);
@@ -135,29 +164,27 @@ fn insert_obu(plan: &mut [u32], store: bool, room: u32, i: u32, size: u32, f: Fi
     if need < room - q.packet_size {
         return Filling {
             packet: packet::with_element(q, size, need),
-            records: f.records,
+            ..f
         };
     }
     let n = packet::first_fragment_size(room, q, size);
     let cut = packet::cut_at(p, q, n);
-    put_record(plan, f.records, cut, store);
+    R::put(plan, f.records, cut);
     let start = packet::start_after(cut);
-    spread_obu(plan, store, room, i, size, n, start, f.records + 1)
+    spread_obu::<R>(plan, room, i, size, n, start, f.records + 1)
 }
 
 // Places the OBU i: in a new packet if the current one is full.
-fn place_obu(plan: &mut [u32], store: bool, room: u32, i: u32, size: u32, f: Filling) -> Filling
-    requires num_obu_elements_bound { (f.packet.num_obu_elements ≤ f.packet.packet_size) × (f.packet.packet_size ≤ room)
-        × (1 ≤ room) × (room ≤ unit_limit) × (1 ≤ size) × (size ≤ unit_limit) }
-    requires closable { Closable store plan.old f.records (place room i size f.packet) }
-    ensures { Closed store plan.old f.records (place room i size f.packet) result.packet result.records plan.new }
+fn place_obu<R: Recording>(plan: &mut [u32], room: u32, i: u32, size: u32, f: Filling) -> Filling
+    requires placeable { Placeable room size f.packet }
+    requires closable { Closable R.stored plan.old f.records (place room i size f.packet) }
+    ensures { Closed R.stored plan.old f.records (place room i size f.packet) result.packet result.records plan.new }
 {
     if packet::is_full(room, f.packet) {
-        put_record(plan, f.records, f.packet, store);
+        R::put(plan, f.records, f.packet);
         let start = packet::start_after(f.packet);
-        return insert_obu(
+        return insert_obu::<R>(
             plan,
-            store,
             room,
             i,
             size,
@@ -167,20 +194,17 @@ fn place_obu(plan: &mut [u32], store: bool, room: u32, i: u32, size: u32, f: Fil
             },
         );
     }
-    insert_obu(plan, store, room, i, size, f)
+    insert_obu::<R>(plan, room, i, size, f)
 }
 
-// Plans the OBUs of a list: counts the packets, and stores their records where told to.
-fn packetize(obus: &[u32], mtu: usize, plan: &mut [u32], store: bool) -> usize
-    requires { Plannable mtu (sizes (obus_in obus.now)) store plan.old }
+// Plans the OBUs of a list, and says how many packets there are.
+fn packetize<R: Recording>(obus: &[u32], mtu: usize, plan: &mut [u32]) -> usize
+    requires { Plannable mtu (sizes (obus_in obus.now)) R.stored plan.old }
     ensures { (result ≡ length (plan_of mtu (sizes (obus_in obus.now))))
-        × (plan.new ≡ recorded store plan.old 0 (plan_of mtu (sizes (obus_in obus.now)))) }
+        × (plan.new ≡ recorded R.stored plan.old 0 (plan_of mtu (sizes (obus_in obus.now)))) }
 {
     let count = obus.len() / obu::OBU_NUMBERS;
-    if count == 0 {
-        return 0;
-    }
-    if mtu < LEAST_MTU {
+    if count == 0 || mtu < LEAST_MTU {
         return 0;
     }
     let room = (mtu - AGGREGATION_HEADER_SIZE) as u32;
@@ -188,13 +212,11 @@ fn packetize(obus: &[u32], mtu: usize, plan: &mut [u32], store: bool) -> usize
         packet: packet::new_packet(0, 0),
         records: 0,
     };
-    let mut i: usize = 0;
-    while i < count {
+    for i in 0..count {
         let o = obu::obu_at(obus, i);
-        f = place_obu(plan, store, room, i as u32, o.size, f);
-        i += 1;
+        f = place_obu::<R>(plan, room, i as u32, o.size, f);
     }
-    put_record(plan, f.records, f.packet, store);
+    R::put(plan, f.records, f.packet);
     f.records + 1
 }
 
@@ -207,12 +229,12 @@ pub fn plan_unit(mtu: usize, unit: &[u8], obus: &mut [u32], plan: &mut [u32]) ->
         return Err(Refusal::MtuOverLimit.into());
     }
     let listed = obu::parse_obus(unit, obus)?;
-    let filled = listed.obus * obu::OBU_NUMBERS;
-    let packets = packetize(&obus[..filled], mtu, plan, false);
+    let filled = &obus[..listed.obus * obu::OBU_NUMBERS];
+    let packets = packetize::<Counted>(filled, mtu, &mut []);
     if plan.len() / PLAN_NUMBERS < packets {
         return Err(Refusal::PlanListFull.into());
     }
-    packetize(&obus[..filled], mtu, plan, true);
+    packetize::<Stored>(filled, mtu, plan);
     Ok(Planned {
         obus: listed.obus,
         packets,
@@ -223,10 +245,9 @@ pub fn plan_unit(mtu: usize, unit: &[u8], obus: &mut [u32], plan: &mut [u32]) ->
 pub fn same_plan(mtu: usize, unit: &[u8], obus: &[u32], plan: &[u32]) -> Result<Planned, RefusedAt>
     ensures { paper_at result ≡ same_plan mtu unit.now obus.now plan.now }
 {
-    if MTU_LIMIT < mtu {
+    if mtu > MTU_LIMIT {
         return Err(Refusal::MtuOverLimit.into());
     }
     let kept = obu::same_list(unit, obus)?;
-    let own = kept.obus * obu::OBU_NUMBERS;
-    cursor::same_packets(&obus[..own], mtu, plan)
+    cursor::same_packets(&obus[..kept.obus * obu::OBU_NUMBERS], mtu, plan)
 }

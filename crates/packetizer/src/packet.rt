@@ -1,5 +1,6 @@
 // One packet while it is filled: what an element costs and needs, the largest fragment, the packet with an element more.
-ghost use Rattle.std.specs.Prelude.{◌≡◌, ◌+◌, ◌≤◌, min};
+ghost use Rattle.std.specs.Prelude.{◌≡◌, ◌+◌, ◌-◌, ◌≤◌, ◌<◌};
+ghost use Rattle.leb128.specs.Laws.{cap};
 ghost use Rattle.obu.specs.Unit.{unit_limit};
 ghost use Rattle.packetizer.specs.Fragment.{Largest};
 ghost use Rattle.packetizer.specs.Plan.{new_packet, charge_of, is_full, charged, need_of, with_element, fragment_of, alone, start_after, start_limit, cut_at};
@@ -47,13 +48,10 @@ pub fn start_after(p: PacketMetadata) -> u32
 pub fn additional_bytes_for_previous_obu_element(p: PacketMetadata) -> u32
     ensures { result ≡ charge_of p }
 {
-    if p.num_obu_elements == 0 {
-        return 0;
+    match p.num_obu_elements {
+        1..=MAX_NUM_OBUS_TO_OMIT_SIZE => leb128::leb128_size(p.last_obu_size) as u32,
+        _ => 0,
     }
-    if p.num_obu_elements > MAX_NUM_OBUS_TO_OMIT_SIZE {
-        return 0;
-    }
-    leb128::leb128_size(p.last_obu_size) as u32
 }
 
 // Whether a further element starts a new packet.
@@ -63,7 +61,7 @@ pub fn is_full(room: u32, p: PacketMetadata) -> bool
     ensures { result ≡ is_full room p }
 {
     let charge = additional_bytes_for_previous_obu_element(p);
-    let least: u32 = if p.num_obu_elements >= MAX_NUM_OBUS_TO_OMIT_SIZE {
+    let least = if p.num_obu_elements >= MAX_NUM_OBUS_TO_OMIT_SIZE {
         2
     } else {
         1
@@ -78,12 +76,8 @@ pub fn charge(p: PacketMetadata) -> PacketMetadata
     ensures { result ≡ charged p }
 {
     PacketMetadata {
-        first_obu_index: p.first_obu_index,
-        num_obu_elements: p.num_obu_elements,
-        first_obu_offset: p.first_obu_offset,
-        last_obu_size: p.last_obu_size,
         packet_size: p.packet_size + additional_bytes_for_previous_obu_element(p),
-        payload_start: p.payload_start,
+        ..p
     }
 }
 
@@ -106,41 +100,35 @@ pub fn with_element(p: PacketMetadata, n: u32, need: u32) -> PacketMetadata
     ensures { result ≡ with_element p n }
 {
     PacketMetadata {
-        first_obu_index: p.first_obu_index,
         num_obu_elements: p.num_obu_elements + 1,
-        first_obu_offset: p.first_obu_offset,
         last_obu_size: n,
         packet_size: p.packet_size + need,
-        payload_start: p.payload_start,
+        ..p
+    }
+}
+
+// How many bytes the length field of the largest fragment has.
+// It has a byte more from each of these rooms on: 128 + 1, 16,384 + 2, 2,097,152 + 3, 268,435,456 + 4.
+fn largest_field(left: u32) -> u32
+    ensures some { 1 ≤ result }
+    ensures most { result ≤ 5 }
+    ensures passed { 1 < result → cap (result - 1) + (result - 1) ≤ left }
+    ensures below { left < cap result + result }
+{
+    match left {
+        ..=128 => 1,
+        ..=16385 => 2,
+        ..=2097154 => 3,
+        ..=268435459 => 4,
+        _ => 5,
     }
 }
 
 // The largest fragment that fits with its length field.
-// From each of these rooms on the field has a byte more: 128 + 1, 16,384 + 2, 2,097,152 + 3, 268,435,456 + 4.
 pub fn max_fragment_size(left: u32) -> u32
     ensures { Largest left result }
 {
-    if left <= 1 {
-        return 0;
-    }
-    let field: u32 = if left < 129 {
-        1
-    } else if left < 16386 {
-        2
-    } else if left < 2097155 {
-        3
-    } else if left < 268435460 {
-        4
-    } else {
-        5
-    };
-    left - field
-}
-
-fn smaller(a: u32, b: u32) -> u32
-    ensures { result ≡ min a b }
-{
-    if a < b { a } else { b }
+    left.saturating_sub(largest_field(left))
 }
 
 // The first fragment of an OBU of `size` bytes.
@@ -151,9 +139,9 @@ pub fn first_fragment_size(room: u32, p: PacketMetadata, size: u32) -> u32
 {
     let left = room - p.packet_size;
     if p.num_obu_elements >= MAX_NUM_OBUS_TO_OMIT_SIZE {
-        return smaller(size - 1, max_fragment_size(left));
+        return (size - 1).min(max_fragment_size(left));
     }
-    smaller(size - 1, left)
+    (size - 1).min(left)
 }
 
 // The packet with the first fragment in it; with none, as it was before the charge.

@@ -1,11 +1,7 @@
-use Prim.Native.Nat.{◌-◌}
 use Rattle.obu.specs.Records.{obus_in}
 use Rattle.packetizer.specs.Call.{sizes}
 use Rattle.packetizer.proofs.Turns.{Placing}
 use Rattle.packetizer.proofs.packetize.Given as goal
 
 abbrev pub invariant-loop-i : goal.invariant-loop-i
-invariant-loop-i l = Placing l.store l.room (sizes (obus_in l.obus)) l.initial.plan l.plan l.f.packet l.f.records l.i
-
-abbrev pub decreases-loop-i : goal.decreases-loop-i
-decreases-loop-i l = l.count - l.i
+invariant-loop-i g l = Placing g.R.Recording.stored l.room (sizes (obus_in l.obus)) l.initial.plan l.plan l.f.packet l.f.records l.i

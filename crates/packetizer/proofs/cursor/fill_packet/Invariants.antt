@@ -1,5 +1,4 @@
 use mathlib.Core.Path.{◌≡◌}
-use Prim.Native.Nat.{◌-◌}
 use lib.ListN.{drop}
 use Rattle.obu.specs.Records.{obus_in}
 use Rattle.packetizer.specs.Plan.{plan_from}
@@ -8,8 +7,5 @@ use Rattle.packetizer.specs.Cursor.{Fillable}
 use Rattle.packetizer.proofs.cursor.fill_packet.Given as goal
 
 abbrev pub invariant-loop-i : goal.invariant-loop-i
-invariant-loop-i l = (plan_from l.room l.initial.i (drop l.initial.i (sizes (obus_in l.obus))) l.initial.p ≡ plan_from l.room l.i (drop l.i (sizes (obus_in l.obus))) l.p)
+invariant-loop-i l = (plan_from l.room l.first (drop l.first (sizes (obus_in l.obus))) l.initial.p ≡ plan_from l.room l.i (drop l.i (sizes (obus_in l.obus))) l.p)
     × Fillable l.room (sizes (obus_in l.obus)) l.i l.p
-
-abbrev pub decreases-loop-i : goal.decreases-loop-i
-decreases-loop-i l = l.count - l.i

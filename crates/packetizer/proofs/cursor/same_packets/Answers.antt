@@ -1,66 +1,48 @@
 use mathlib.Core.Path.{sym, ◌∙◌}
-use Prim.Native.Nat.{ℕ, ◌≤◌}
+use Prim.Native.Nat.{◌≤◌}
 use native.Mathlib.Omega.{arith}
-use mathlib.Core.List.{List}
 use Rattle.obu.specs.Records.{obus_in}
 use Rattle.obu.proofs.Records.{obus_count}
 use Rattle.packetizer.specs.Plan.{least_mtu, plan_of}
 use Rattle.packetizer.specs.Call.{sizes}
-use Rattle.packetizer.specs.declared.PacketMetadata.{PacketMetadata}
 use Rattle.packetizer.proofs.Turns.{sizes_count}
-use Rattle.packetizer.proofs.Comparing.{low_same, passed_first, walkable, passed_less, passed_few, passed_near, passed_next, passed_other, passed_end, compared_same, compared_other}
+use Rattle.packetizer.proofs.Comparing.{low_same, passed_first, walkable, passed_few, passed_near, passed_next, passed_other, passed_end, compared_same, compared_other}
 use Rattle.packetizer.proofs.cursor.same_packets.Goals as goal
 
 pub returns-then-mtu-lt-LEAST_MTU : goal.returns-then-mtu-lt-LEAST_MTU
 returns-then-mtu-lt-LEAST_MTU c =
-    let of : List ℕ = sizes (obus_in c.args.obus.now) in
-    let planned : List PacketMetadata = plan_of c.args.mtu (of) in
-    compared_same (planned) c.args.plan.now (sym (obus_count c.args.obus.now)) (low_same (of) c.args.plan.now c.if-mtu-lt-LEAST_MTU.true)
-
-pub overflow_cast-room : goal.overflow_cast-room
-overflow_cast-room c = omega (arith, c.requires.most)
+    compared_same _ c.args.plan.now (sym (obus_count c.args.obus.now)) (low_same (sizes (obus_in c.args.obus.now)) c.args.plan.now c.if-mtu-lt-LEAST_MTU.true)
 
 pub loop-obu-init : goal.loop-obu-init
-loop-obu-init c =
-    let least : least_mtu ≤ c.args.mtu = omega (arith, c.if-mtu-lt-LEAST_MTU.false) in
-    passed_first (least)
+loop-obu-init c = passed_first c.if-mtu-lt-LEAST_MTU.false
 
 pub next_packet-next-requires : goal.next_packet-next-requires
-next_packet-next-requires c =
-    let least : least_mtu ≤ c.args.mtu = omega (arith, c.if-mtu-lt-LEAST_MTU.false) in
-    record { walkable = walkable (least) c.requires; obu_in_bounds = (omega (arith, c.loop-obu-test.true, sizes_count c.args.obus.now), c.loop-obu.invariant.starts) }
+next_packet-next-requires c = record {
+  walkable = walkable c.if-mtu-lt-LEAST_MTU.false c.requires;
+  inside = omega (arith, c.loop-obu-test.true, sizes_count c.args.obus.now);
+      starts = c.loop-obu.invariant.starts;
+}
 
 pub same_record-requires : goal.same_record-requires
 same_record-requires c =
-    let least : least_mtu ≤ c.args.mtu = omega (arith, c.if-mtu-lt-LEAST_MTU.false) in
-    omega (arith, passed_few c.loop-obu.invariant c.next_packet-next.ensures (least) c.requires)
+    omega (arith, passed_few c.loop-obu.invariant c.next_packet-next.ensures c.if-mtu-lt-LEAST_MTU.false c.requires)
 
 pub start_after-start-requires : goal.start_after-start-requires
-start_after-start-requires c =
-    let least : least_mtu ≤ c.args.mtu = omega (arith, c.if-mtu-lt-LEAST_MTU.false) in
-    passed_near c.loop-obu.invariant c.next_packet-next.ensures (least) c.requires
+start_after-start-requires c = passed_near c.loop-obu.invariant c.next_packet-next.ensures c.if-mtu-lt-LEAST_MTU.false c.requires
 
 pub overflow_add-n : goal.overflow_add-n
 overflow_add-n c =
-    let least : least_mtu ≤ c.args.mtu = omega (arith, c.if-mtu-lt-LEAST_MTU.false) in
-    omega (arith, passed_few c.loop-obu.invariant c.next_packet-next.ensures (least) c.requires)
-
-pub loop-obu-smaller : goal.loop-obu-smaller
-loop-obu-smaller c = rw c.start_after-start.ensures (passed_less c.loop-obu.invariant c.next_packet-next.ensures)
+    omega (arith, passed_few c.loop-obu.invariant c.next_packet-next.ensures c.if-mtu-lt-LEAST_MTU.false c.requires)
 
 pub loop-obu-preserved : goal.loop-obu-preserved
-loop-obu-preserved c = rw c.start_after-start.ensures (passed_next c.loop-obu.invariant c.next_packet-next.ensures (sym c.same_record.ensures ∙ c.if-same_record.true))
+loop-obu-preserved c = rw c.start_after-start.ensures (passed_next c.loop-obu.invariant c.next_packet-next.ensures (sym c.same_record.ensures ∙ c.if-not-same_record.false))
 
-pub returns-else-same_record : goal.returns-else-same_record
-returns-else-same_record c =
-    let of : List ℕ = sizes (obus_in c.args.obus.now) in
-    let planned : List PacketMetadata = plan_of c.args.mtu (of) in
-    compared_other (planned) c.args.plan.now _
-    (passed_other c.loop-obu.invariant c.next_packet-next.ensures (sym c.same_record.ensures ∙ c.if-same_record.false))
+pub returns-then-not-same_record : goal.returns-then-not-same_record
+returns-then-not-same_record c =
+    rw c.into.ensures (compared_other (plan_of c.args.mtu (sizes (obus_in c.args.obus.now))) c.args.plan.now _
+    (passed_other c.loop-obu.invariant c.next_packet-next.ensures (sym c.same_record.ensures ∙ c.if-not-same_record.true)))
 
 pub returns : goal.returns
 returns c =
-    let of : List ℕ = sizes (obus_in c.args.obus.now) in
-    let planned : List PacketMetadata = plan_of c.args.mtu (of) in
-    compared_same (planned) c.args.plan.now (sym (obus_count c.args.obus.now))
+    compared_same (plan_of c.args.mtu (sizes (obus_in c.args.obus.now))) c.args.plan.now (sym (obus_count c.args.obus.now))
     (passed_end c.loop-obu.invariant (omega (arith, c.loop-obu-test.false, sizes_count c.args.obus.now)))

@@ -4,6 +4,3 @@ use Rattle.packetizer.proofs.packet.charge.Goals as goal
 
 pub overflow_add-result : goal.overflow_add-result
 overflow_add-result c = omega (arith, c.additional_bytes_for_previous_obu_element.ensures, charge_most c.args.p)
-
-pub returns : goal.returns
-returns c = rw c.additional_bytes_for_previous_obu_element.ensures
