@@ -114,7 +114,12 @@ fn last_of(p: PacketMetadata, n: usize) -> usize
 }
 
 // From flat lists of any numbers.
-pub fn get_aggregation_header(unit: &[u8], obus: &[u32], plan: &[u32], k: usize) -> Result<u8, Refusal>
+pub fn get_aggregation_header(
+    unit: &[u8],
+    obus: &[u32],
+    plan: &[u32],
+    k: usize,
+) -> Result<u8, Refusal>
     ensures { paper result ≡ header_of unit.now (obus_in obus.now) (packets_in plan.now) k }
 {
     if plan.len() / packetizer::PLAN_NUMBERS <= k {
@@ -156,7 +161,12 @@ pub fn header_byte(obus: &[u32], plan: &[u32], k: usize, new: bool) -> u8
 }
 
 // From slices of records, by the same rule.
-pub fn header_of(unit: &[u8], obus: &[Obu], packets: &[PacketMetadata], k: usize) -> Result<u8, Refusal>
+pub fn header_of(
+    unit: &[u8],
+    obus: &[Obu],
+    packets: &[PacketMetadata],
+    k: usize,
+) -> Result<u8, Refusal>
     ensures { paper result ≡ header_of unit.now obus.now packets.now k }
 {
     if packets.len() <= k {
