@@ -89,7 +89,8 @@ fn rule(p: PacketMetadata, size: u32, seen: Seen, k: usize) -> Result<u8, Refusa
     if seen.is_outside() {
         return Err(Refusal::NoUsablePacket);
     }
-    Ok(header_bits(p, size, k == 0 && seen.is_new()))
+    let new = k == 0 && seen.is_new();
+    Ok(header_bits(p, size, new))
 }
 
 // Which of n OBUs the last element belongs to; refused if the record has no element, OBUs beyond them, or an end beyond L17.

@@ -1,11 +1,8 @@
 use mathlib.Core.Path.{◌≡◌, sym, ap, ◌∙◌}
-use mathlib.Core.Bool.{false, ◌&&◌}
-use mathlib.Core.List.{List}
-use Prim.Native.Nat.{ℕ}
+use mathlib.Core.Bool.{◌&&◌}
 use lib.Dec.{eqb}
 use borrow.Author.Tests.{eq-eqb, ne_eqb}
 use Rattle.base.specs.Answers.{given}
-use Rattle.obu.specs.declared.Obu.{Obu}
 use Rattle.aggregation.specs.New.{new_sequence}
 use Rattle.aggregation.specs.Inside.{is_new, is_outside}
 use Rattle.aggregation.proofs.Sequences.{seen_outside, seen_new}
@@ -19,8 +16,8 @@ returns-then-is_outside c = λ unit obus size seen.
 pub returns : goal.returns
 returns c = λ unit obus size seen.
     let inside = sym (seen_outside unit obus) ∙ ap is_outside (sym seen) ∙ sym c.is_outside.ensures ∙ c.if-is_outside.false in
-    let new : c.if-k-eq0.header_bits ≡ (eqb c.args.k 0 && new_sequence unit obus) = elim c.if-k-eq0.branch [
-      | then-k-eq0 w ↦ rw (eq-eqb _ 0 w.if-k-eq0.true) (w.header_bits-is ∙ w.is_new.ensures ∙ ap is_new seen ∙ seen_new unit obus inside)
-      | else-k-eq0 w ↦ rw (ne_eqb _ 0 w.if-k-eq0.false) (w.header_bits-is ∙ ne_eqb _ 0 w.if-k-eq0.false)
+    let new : c.if-k-eq0.new ≡ (eqb c.args.k 0 && new_sequence unit obus) = elim c.if-k-eq0.branch [
+      | then-k-eq0 w ↦ rw (eq-eqb _ 0 w.if-k-eq0.true) (w.new-is ∙ w.is_new-new.ensures ∙ ap is_new seen ∙ seen_new unit obus inside)
+      | else-k-eq0 w ↦ rw (ne_eqb _ 0 w.if-k-eq0.false) (w.new-is ∙ ne_eqb _ 0 w.if-k-eq0.false)
     ] in
     rw inside (ap given (c.header_bits.ensures unit obus c.args.k size new))
