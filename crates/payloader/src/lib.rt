@@ -168,21 +168,13 @@ pub fn write_packets(
     if planned.packets.saturating_sub(first) < count {
         return Err(Refusal::NoUsablePacket.into());
     }
-    let listed = planned.obus * obu::OBU_NUMBERS;
-    let recorded = planned.packets * packetizer::PLAN_NUMBERS;
-    let bytes = run_bytes(&plan[..recorded], first, count);
+    let obus = &obus[..planned.obus * obu::OBU_NUMBERS];
+    let plan = &plan[..planned.packets * packetizer::PLAN_NUMBERS];
+    let bytes = run_bytes(plan, first, count);
     if out.len() < bytes {
         return Err(Refusal::NoRoomForPayloads.into());
     }
-    put_packets(
-        mtu,
-        unit,
-        &obus[..listed],
-        &plan[..recorded],
-        first,
-        count,
-        out,
-    );
+    put_packets(mtu, unit, obus, plan, first, count, out);
     Ok(Written { bytes })
 }
 

@@ -58,14 +58,17 @@ returns-then-saturating_sub-count c =
     let s = (goal.at.returns-then-saturating_sub-count c).In_ok-planned in
     rw c.into.ensures (outcome_11 _ _ (input s) _ s.in_ok-planned.ensures (lt-leb _ _ (omega (arith, c.if-saturating_sub-count.true))))
 
-pub overflow_mul-listed : goal.overflow_mul-listed
-overflow_mul-listed c = omega (arith, (known (goal.at.overflow_mul-listed c).In_ok-planned).obus_long)
+pub overflow_mul-obus : goal.overflow_mul-obus
+overflow_mul-obus c = omega (arith, (known (goal.at.overflow_mul-obus c).In_ok-planned).obus_long)
 
-pub overflow_mul-recorded : goal.overflow_mul-recorded
-overflow_mul-recorded c = omega (arith, (known (goal.at.overflow_mul-recorded c).In_ok-planned).plan_long)
+pub overflow_mul-plan : goal.overflow_mul-plan
+overflow_mul-plan c = omega (arith, (known (goal.at.overflow_mul-plan c).In_ok-planned).plan_long)
 
-pub slice_bounds-run_bytes-end : goal.slice_bounds-run_bytes-end
-slice_bounds-run_bytes-end c = sym (length-take-le _ _ (known (goal.at.slice_bounds-run_bytes-end c).In_ok-planned).plan_long)
+pub slice_bounds-obus-end : goal.slice_bounds-obus-end
+slice_bounds-obus-end c = sym (length-take-le _ _ (known (goal.at.slice_bounds-obus-end c).In_ok-planned).obus_long)
+
+pub slice_bounds-plan-end : goal.slice_bounds-plan-end
+slice_bounds-plan-end c = sym (length-take-le _ _ (known (goal.at.slice_bounds-plan-end c).In_ok-planned).plan_long)
 
 pub run_bytes-bytes-requires : goal.run_bytes-bytes-requires
 run_bytes-bytes-requires c =
@@ -79,12 +82,6 @@ returns-then-out-bytes c =
     let t = s.In_ok-planned in
     rw c.into-then-out-bytes.ensures
     (outcome_10 _ _ (input t) _ t.in_ok-planned.ensures (le-leb _ _ (enough s.Else-saturating_sub-count)) _ (bytes_are s.After-run_bytes-bytes) c.if-out-bytes.true)
-
-pub slice_bounds-put_packets-end : goal.slice_bounds-put_packets-end
-slice_bounds-put_packets-end c = sym (length-take-le _ _ (known (goal.at.slice_bounds-put_packets-end c).In_ok-planned).obus_long)
-
-pub slice_bounds-put_packets-end-2 : goal.slice_bounds-put_packets-end-2
-slice_bounds-put_packets-end-2 c = sym (length-take-le _ _ (known (goal.at.slice_bounds-put_packets-end-2 c).In_ok-planned).plan_long)
 
 pub put_packets-requires : goal.put_packets-requires
 put_packets-requires c =
