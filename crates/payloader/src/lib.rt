@@ -74,11 +74,12 @@ fn put_element(
     ensures { (result ≡ at + (length (cond field (encode n) []) + n))
         × (out.new ≡ sets out.old at (cond field (encode n) [] ++ take n (drop from (sent unit.now o)))) }
 {
-    if field {
-        let next = leb128::put_leb128(out, at, n as u32);
-        return put_part(unit, o, from, n, out, next);
-    }
-    put_part(unit, o, from, n, out, at)
+    let next = if field {
+        leb128::put_leb128(out, at, n as u32)
+    } else {
+        at
+    };
+    put_part(unit, o, from, n, out, next)
 }
 
 // Writes packet k of a unit's plan, on which N is set if `new` says so, at the cursor `at`, and returns the cursor after it.
