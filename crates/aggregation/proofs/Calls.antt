@@ -1,9 +1,9 @@
 -- The definition, by the tests that both calls make. Assumes nothing.
-use mathlib.Core.Path.{◌≡◌, ap}
+use mathlib.Core.Path.{◌≡◌, sym, ap}
 use Prim.Native.Nat.{ℕ, ◌+◌, ◌≤◌, ◌<◌}
 use native.Mathlib.Omega.{arith}
 use mathlib.Core.List.{List}
-use mathlib.Core.Bool.{true, false, true≢false, cond}
+use mathlib.Core.Bool.{Bool, true, false, true≢false, cond}
 use lib.Dec.{ltb, leb, eqb}
 use lib.ListN.{length, get_or}
 use borrow.Author.Tests.{le-leb, lt-leb, leb-false, eqb-false, ltb-false}
@@ -27,20 +27,20 @@ whole_there n p e =
     let u : p.num_obu_elements ≡ 0 → ⊥ = eqb-false _ _ z in
     (omega arith, ltb-false n (p.first_obu_index + p.num_obu_elements) s)))
 
-last_there : (n : ℕ) (p : PacketMetadata) → lacking n p ≡ false → last_obu p < n
-last_there n p e = omega (arith, whole_there n p e)
+-- what is given is no refusal, and is one value
+given_refused : {A : Type 0} {a : A} {m at : ℕ} → given a ≡ refused m at → ⊥
+given_refused e = true≢false (ap is_given e)
+  where
+    is_given : {A : Type 0} → Answer A → Bool
+    is_given (given a) = true
+    is_given (refused m at) = false
 
--- what `last_of` answers says whether the record lacks something
-module _ (n i : ℕ) (p : PacketMetadata) (is : i ≡ cond (lacking n p) n (last_obu p)) where
-  beyond : n ≤ i → lacking n p ≡ true
-  beyond h =
-      split_on (lacking n p) (λ t. t) (λ f. let e : i ≡ last_obu p = rw f at is in absurd (omega (arith, last_there n p f)))
-
-  within : i < n → lacking n p ≡ false
-  within h = split_on (lacking n p) (λ t. let e : i ≡ n = rw t at is in absurd (omega arith)) (λ f. f)
-
-  at_last : i < n → i ≡ last_obu p
-  at_last h = rw (within h) at is
+given_same : {a b : ℕ} → given a ≡ given b → a ≡ b
+given_same {a} e = ap value e
+  where
+    value : Answer ℕ → ℕ
+    value (given x) = x
+    value (refused m at) = a
 
 module _ (unit : List ℕ) (obus : List Obu) (packets : List PacketMetadata) (k : ℕ) where
   -- what is so where a header is given
@@ -70,23 +70,22 @@ module _ (unit : List ℕ) (obus : List Obu) (packets : List PacketMetadata) (k 
   none_there h = rw (le-leb (length packets) k h)
 
   -- by what `last_of` answers for record k
-  module _
-      (there : k < length packets)
-      (n i : ℕ)
-      (p : PacketMetadata)
-      (count : n ≡ length obus)
-      (found : p ≡ get_or packets k no_packet)
-      (is : i ≡ cond (lacking n p) n (last_obu p))
-    where
-      pub lacks : n ≤ i → refused 11 0 ≡ header_of unit obus packets k
-      unfolding header_of
-      lacks h = rw (lt-leb (length packets) k there, ← count, ← found, beyond n i p is h)
+  module _ (there : k < length packets) (n : ℕ) (p : PacketMetadata) (count : n ≡ length obus) (found : p ≡ get_or packets k no_packet) where
+    pub lacks : {m at : ℕ} → refused m at ≡ cond (lacking n p) (refused 11 0) (given (last_obu p)) → refused m at ≡ header_of unit obus packets k
+    unfolding header_of
+    lacks e =
+        split_on (lacking n p)
+        (λ t. rw (lt-leb (length packets) k there, ← count, ← found, t) (rw t at e))
+        (λ t. absurd (given_refused (sym (rw t at e))))
 
-      -- OBU i is the last element's
-      pub answers : i < n → (a : Answer ℕ)
-          → ((get_or obus i no_obu).size ≡ (get_or obus (last_obu p) no_obu).size → a ≡ cond (any_outside unit obus) (refused 11 0) (given (byte_of unit obus p k)))
-          → a ≡ header_of unit obus packets k
-      unfolding header_of
-      answers h a f =
-          rw (lt-leb (length packets) k there, ← count, ← found, within n i p is h)
-          (f (ap (λ (j : ℕ). (get_or obus j no_obu).size) (at_last n i p is h)))
+    -- OBU i is the last element's
+    pub answers : {i : ℕ} → given i ≡ cond (lacking n p) (refused 11 0) (given (last_obu p)) → (a : Answer ℕ)
+        → ((get_or obus i no_obu).size ≡ (get_or obus (last_obu p) no_obu).size → a ≡ cond (any_outside unit obus) (refused 11 0) (given (byte_of unit obus p k)))
+        → a ≡ header_of unit obus packets k
+    unfolding header_of
+    answers e a f =
+        split_on (lacking n p)
+        (λ t. absurd (given_refused (rw t at e)))
+        (λ t.
+        rw (lt-leb (length packets) k there, ← count, ← found, t)
+        (f (ap (λ (j : ℕ). (get_or obus j no_obu).size) (given_same (rw t at e)))))

@@ -86,48 +86,41 @@ fn rule(p: PacketMetadata, size: u32, seen: Seen, k: usize) -> Result<u8, Refusa
     ensures { (unit : List ℕ) (obus : List ObuRecord) → size ≡ (get_or obus (last_obu p) no_obu).size
         → seen ≡ seen_after unit Nothing obus → paper result ≡ cond (any_outside unit obus) (refused 11 0) (given (byte_of unit obus p k)) }
 {
-    if sequence::found_outside(seen) {
+    if seen.is_outside() {
         return Err(Refusal::NoUsablePacket);
     }
-    if k == 0 {
-        return Ok(header_bits(p, size, sequence::found_new(seen)));
-    }
-    Ok(header_bits(p, size, false))
+    let new = k == 0 && seen.is_new();
+    Ok(header_bits(p, size, new))
 }
 
-// Which of n OBUs the last element belongs to, or n if the record has no element, OBUs beyond them, or an end beyond L17.
-fn last_of(p: PacketMetadata, n: usize) -> usize
-    ensures { result ≡ cond (lacking n p) n (last_obu p) }
+// Which of n OBUs the last element belongs to; refused if the record has no element, OBUs beyond them, or an end beyond L17.
+fn last_of(p: PacketMetadata, n: usize) -> Result<usize, Refusal>
+    ensures { paper result ≡ cond (lacking n p) (refused 11 0) (given (last_obu p)) }
 {
-    if p.num_obu_elements == 0 {
-        return n;
-    }
     let end = (p.first_obu_index as u64) + (p.num_obu_elements as u64);
-    if end > (n as u64) {
-        return n;
-    }
     let after = (p.payload_start as u64) + (p.packet_size as u64) + 1;
-    if after > packetizer::START_LIMIT {
-        return n;
+    if p.num_obu_elements == 0 || end > (n as u64) || after > packetizer::START_LIMIT {
+        return Err(Refusal::NoUsablePacket);
     }
-    (end - 1) as usize
+    Ok((end - 1) as usize)
 }
 
 // From flat lists of any numbers.
-pub fn get_aggregation_header(unit: &[u8], obus: &[u32], plan: &[u32], k: usize) -> Result<u8, Refusal>
+pub fn get_aggregation_header(
+    unit: &[u8],
+    obus: &[u32],
+    plan: &[u32],
+    k: usize,
+) -> Result<u8, Refusal>
     ensures { paper result ≡ header_of unit.now (obus_in obus.now) (packets_in plan.now) k }
 {
     if plan.len() / packetizer::PLAN_NUMBERS <= k {
         return Err(Refusal::NoUsablePacket);
     }
     let p = packetizer::packet_at(plan, k);
-    let n = obus.len() / obu::OBU_NUMBERS;
-    let i = last_of(p, n);
-    if n <= i {
-        return Err(Refusal::NoUsablePacket);
-    }
-    let last = obu::obu_at(obus, i);
-    rule(p, last.size, sequence::seen_in(unit, obus), k)
+    let i = last_of(p, obus.len() / obu::OBU_NUMBERS)?;
+    let size = obu::obu_at(obus, i).size;
+    rule(p, size, sequence::seen_in(unit, obus), k)
 }
 
 // Whether N is set on packet k.
@@ -136,10 +129,7 @@ pub fn new_at(unit: &[u8], obus: &[u32], k: usize) -> bool
     requires { any_outside unit.now (obus_in obus.now) ≡ false }
     ensures { result ≡ (eqb k 0 && new_sequence unit.now (obus_in obus.now)) }
 {
-    if k == 0 {
-        return sequence::begins(unit, obus);
-    }
-    false
+    k == 0 && sequence::begins(unit, obus)
 }
 
 // The header of packet k as a byte, where it is known to have one, and `new` is N: nothing is tested or looked for.
@@ -156,22 +146,21 @@ pub fn header_byte(obus: &[u32], plan: &[u32], k: usize, new: bool) -> u8
 }
 
 // From slices of records, by the same rule.
-pub fn header_of(unit: &[u8], obus: &[Obu], packets: &[PacketMetadata], k: usize) -> Result<u8, Refusal>
+pub fn header_of(
+    unit: &[u8],
+    obus: &[Obu],
+    packets: &[PacketMetadata],
+    k: usize,
+) -> Result<u8, Refusal>
     ensures { paper result ≡ header_of unit.now obus.now packets.now k }
 {
-    if packets.len() <= k {
+    let Some(p) = packets.get(k) else {
         return Err(Refusal::NoUsablePacket);
-    }
-    let p = packets[k];
-    let i = last_of(p, obus.len());
-    if obus.len() <= i {
-        return Err(Refusal::NoUsablePacket);
-    }
+    };
+    let i = last_of(*p, obus.len())?;
     let mut seen = Seen::Nothing;
-    let mut j: usize = 0;
-    while j < obus.len() {
-        seen = sequence::see(unit, seen, obus[j]);
-        j += 1;
+    for o in obus {
+        seen = sequence::see(unit, seen, *o);
     }
-    rule(p, obus[i].size, seen, k)
+    rule(*p, obus[i].size, seen, k)
 }

@@ -16,44 +16,25 @@ const OBU_TYPE_FRAME_HEADER: u8 = 3;
 
 const OBU_TYPE_FRAME: u8 = 6;
 
-pub fn found_new(seen: Seen) -> bool
-    ensures { result ≡ is_new seen }
-{
-    match seen {
-        Seen::Nothing => false,
-        Seen::Plain => false,
-        Seen::Reduced => false,
-        Seen::Clear => false,
-        Seen::New => true,
-        Seen::Outside => false,
+impl Seen {
+    // N is set.
+    pub fn is_new(self) -> bool
+        ensures { result ≡ is_new self }
+    {
+        matches!(self, Seen::New)
     }
-}
 
-// An OBU was outside the unit.
-pub fn found_outside(seen: Seen) -> bool
-    ensures { result ≡ is_outside seen }
-{
-    match seen {
-        Seen::Nothing => false,
-        Seen::Plain => false,
-        Seen::Reduced => false,
-        Seen::Clear => false,
-        Seen::New => false,
-        Seen::Outside => true,
+    pub fn is_outside(self) -> bool
+        ensures { result ≡ is_outside self }
+    {
+        matches!(self, Seen::Outside)
     }
-}
 
-// No OBU that comes can change it, but one outside the unit.
-fn is_settled(seen: Seen) -> bool
-    ensures { result ≡ settled seen }
-{
-    match seen {
-        Seen::Nothing => false,
-        Seen::Plain => false,
-        Seen::Reduced => false,
-        Seen::Clear => true,
-        Seen::New => true,
-        Seen::Outside => true,
+    // No OBU that comes can change it, but one outside the unit.
+    fn is_settled(self) -> bool
+        ensures { result ≡ settled self }
+    {
+        matches!(self, Seen::Clear | Seen::New | Seen::Outside)
     }
 }
 
@@ -61,8 +42,7 @@ fn is_settled(seen: Seen) -> bool
 fn is_outside(unit: &[u8], o: Obu) -> bool
     ensures { result ≡ outside unit.now o }
 {
-    let end = (o.start as u64) + (o.length as u64);
-    end > (unit.len() as u64)
+    o.start as usize + o.length as usize > unit.len()
 }
 
 // The top three bits of the extension byte, 0 where there is none.
@@ -104,12 +84,9 @@ fn is_opening(unit: &[u8], seen: Seen, f: Obu) -> bool
     ensures { result ≡ opens unit.now seen f }
 {
     match seen {
-        Seen::Nothing => false,
         Seen::Plain => shown_key(unit[f.start as usize]),
         Seen::Reduced => true,
-        Seen::Clear => false,
-        Seen::New => false,
-        Seen::Outside => false,
+        _ => false,
     }
 }
 
@@ -118,13 +95,7 @@ fn see_frame(unit: &[u8], seen: Seen, f: Obu) -> Seen
     requires { f.start + f.length ≤ length unit.now }
     ensures { result ≡ seen_frame unit.now seen f }
 {
-    if f.length == 0 {
-        return Seen::Clear;
-    }
-    if temporal_id(f) != 0 {
-        return Seen::Clear;
-    }
-    if is_opening(unit, seen, f) {
+    if f.length > 0 && temporal_id(f) == 0 && is_opening(unit, seen, f) {
         Seen::New
     } else {
         Seen::Clear
@@ -136,20 +107,14 @@ fn see_inside(unit: &[u8], seen: Seen, o: Obu) -> Seen
     requires { o.start + o.length ≤ length unit.now }
     ensures { result ≡ seen_inside unit.now seen o }
 {
-    if is_settled(seen) {
+    if seen.is_settled() {
         return seen;
     }
-    let kind = obu::obu_type(o.header);
-    if kind == OBU_TYPE_SEQUENCE_HEADER {
-        return see_sequence(unit, o);
+    match obu::obu_type(o.header) {
+        OBU_TYPE_SEQUENCE_HEADER => see_sequence(unit, o),
+        OBU_TYPE_FRAME_HEADER | OBU_TYPE_FRAME => see_frame(unit, seen, o),
+        _ => seen,
     }
-    if kind == OBU_TYPE_FRAME_HEADER {
-        return see_frame(unit, seen, o);
-    }
-    if kind == OBU_TYPE_FRAME {
-        return see_frame(unit, seen, o);
-    }
-    seen
 }
 
 // One OBU more.
@@ -168,10 +133,8 @@ pub fn seen_in(unit: &[u8], obus: &[u32]) -> Seen
 {
     let n = obus.len() / obu::OBU_NUMBERS;
     let mut seen = Seen::Nothing;
-    let mut i: usize = 0;
-    while i < n {
+    for i in 0..n {
         seen = see(unit, seen, obu::obu_at(obus, i));
-        i += 1;
     }
     seen
 }
@@ -184,13 +147,11 @@ pub fn begins(unit: &[u8], obus: &[u32]) -> bool
 {
     let n = obus.len() / obu::OBU_NUMBERS;
     let mut seen = Seen::Nothing;
-    let mut i: usize = 0;
-    while i < n {
+    for i in 0..n {
         seen = see_inside(unit, seen, obu::obu_at(obus, i));
-        if is_settled(seen) {
-            return found_new(seen);
+        if seen.is_settled() {
+            return seen.is_new();
         }
-        i += 1;
     }
     false
 }

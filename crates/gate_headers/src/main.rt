@@ -2,11 +2,11 @@
 #![tactic(auto)]
 
 ghost use Rattle.std.specs.Prelude.{◌≡◌};
+ghost use Rattle.base.specs.Answers.{paper};
 ghost use Rattle.aggregation.specs.Header.{header_of};
-ghost use Rattle.aggregation.specs.Paper.{paper};
 ghost use Rattle.gate_headers.specs.Rows.{obu_of, packet_of, code_of, of_records, of_numbers};
 
-use aggregation::HeaderAnswer;
+use base::Refusal;
 use obu::Obu;
 use packetizer::PacketMetadata;
 
@@ -31,19 +31,24 @@ const REDUCED: [u8; 2] = [8, 255];
 const SHORT: [u8; 1] = [0];
 
 // Arrays of records by value, lent as slices: so its callers are covered.
-fn header_in(unit: &[u8], obus: [Obu; 4], packets: [PacketMetadata; 8], k: usize) -> HeaderAnswer
+fn header_in(
+    unit: &[u8],
+    obus: [Obu; 4],
+    packets: [PacketMetadata; 8],
+    k: usize,
+) -> Result<u8, Refusal>
     ensures { paper result ≡ header_of unit.now obus packets k }
 {
     aggregation::header_of(unit, &obus, &packets, k)
 }
 
 // The byte, or 256 plus the number of the refusal.
-fn code(answer: HeaderAnswer) -> u64
+fn code(answer: Result<u8, Refusal>) -> u64
     ensures { result ≡ code_of (paper answer) }
 {
     match answer {
-        HeaderAnswer::Header(byte) => byte as u64,
-        HeaderAnswer::Refused(refusal) => 256 + (base::number(refusal) as u64),
+        Ok(byte) => byte as u64,
+        Err(refusal) => 256 + (base::number(refusal) as u64),
     }
 }
 
@@ -51,11 +56,11 @@ fn an_obu(header: u8, start: u32, length: u32, size: u32) -> Obu
     ensures { result ≡ obu_of header start «length» size }
 {
     Obu {
-        header: header,
+        header,
         extension: 0,
-        start: start,
-        length: length,
-        size: size,
+        start,
+        length,
+        size,
     }
 }
 

@@ -1,10 +1,10 @@
 -- A packet of a unit's plan: its record, its header, and what its elements take. Assumes nothing.
 use mathlib.Core.Path.{◌≡◌, refl, sym, ap, ap₂, ◌∙◌}
-use Prim.Native.Nat.{ℕ, ◌+◌, ◌-◌, ◌≤◌, ◌<◌}
+use Prim.Native.Nat.{ℕ, ◌+◌, ◌-◌, ◌*◌, ◌≤◌, ◌<◌}
 use native.Mathlib.Numerals.{add-one}
 use native.Mathlib.Omega.{arith}
 use mathlib.Core.List.{List, [], ◌∷◌, map}
-use mathlib.Core.Bool.{false}
+use mathlib.Core.Bool.{Bool, false}
 use lib.ListN.{length, get_or, set, length-map, length-set}
 use lib.Seq.{sets}
 use lib.Dec.{ltb, leb}
@@ -14,11 +14,11 @@ use Rattle.base.specs.Lists.{All}
 use Rattle.base.proofs.Storing.{storing_first}
 use Rattle.base.proofs.Tests.{split_on}
 use Rattle.obu.specs.Unit.{unit_limit, Placed, kept_of, obus_of}
-use Rattle.obu.specs.Records.{flat, obus_in}
-use Rattle.obu.specs.Laws.{Inside, Bytes}
+use Rattle.obu.specs.Records.{obu_numbers, flat, obus_in, no_obu}
+use Rattle.obu.specs.Laws.{Inside, Bytes, Lies}
 use Rattle.obu.specs.declared.Obu.{Obu}
 use Rattle.obu.proofs.Theorems.{kept_inside}
-use Rattle.obu.proofs.Records.{unit_flat}
+use Rattle.obu.proofs.Records.{flat_length, unit_flat, obu_lies}
 use Rattle.packetizer.specs.Plan.{least_mtu, most_counted}
 use Rattle.packetizer.specs.Call.{sizes_of, unit_plan}
 use Rattle.packetizer.specs.Laws.{Sound}
@@ -49,6 +49,26 @@ kept_lie unit (p ∷ ps) a = rw (le-ltb (length unit) _ a.0.within) (kept_lie un
 
 pub none_outside : (unit : List ℕ) → any_outside unit (obus_of unit) ≡ false
 none_outside unit = kept_lie unit (kept_of unit) (kept_inside unit)
+
+-- what lent lists hold, read back
+pub lent_long : {mtu : ℕ} {unit obus plan : List ℕ} → Lent mtu unit obus plan → length obus ≡ length (obus_of unit) * obu_numbers
+lent_long {mtu} {unit} l = ap length l.obus_is ∙ flat_length (obus_of unit)
+
+module _ {mtu : ℕ} {unit obus plan : List ℕ} (bytes : Bytes unit) (l : Lent mtu unit obus plan) where
+  pub lent_obus : obus_in obus ≡ obus_of unit
+  lent_obus = ap obus_in l.obus_is ∙ unit_flat unit bytes
+
+  pub lent_obu : {o : Obu} (i : ℕ) → o ≡ get_or (obus_in obus) i no_obu → o ≡ get_or (obus_of unit) i no_obu
+  lent_obu {o} i e = e ∙ ap (λ (os : List Obu). get_or os i no_obu) lent_obus
+
+  pub lent_packet : {p : PacketMetadata} (k : ℕ) → p ≡ get_or (packets_in plan) k no_packet → p ≡ get_or (unit_plan mtu unit) k no_packet
+  lent_packet {p} k e =
+      e ∙ ap (λ (n : List ℕ). get_or (packets_in n) k no_packet) l.plan_is ∙ ap (λ (ps : List PacketMetadata). get_or ps k no_packet) (packets_flat (unit_plan mtu unit))
+
+-- the OBU of the next element lies in the unit
+pub writing_lies : {unit : List ℕ} {flag : Bool} {last : ℕ} {all out₀ : List ℕ} {at : ℕ} {out : List ℕ} {i from left cursor : ℕ} → Bytes unit
+    → Writing unit (obus_of unit) flag last all out₀ at out i from left cursor → Lies unit (get_or (obus_of unit) i no_obu)
+writing_lies {unit} {flag} {last} {all} {out₀} {at} {out} {i} q w = obu_lies unit i q (omega (arith, w.inside, w.some))
 
 module _ (mtu : ℕ) (unit : List ℕ) (k : ℕ) (small : length unit ≤ unit_limit) (there : k < length (unit_plan mtu unit)) where
   abbrev pub packet : PacketMetadata

@@ -24,13 +24,6 @@ pub struct Written {
     pub bytes: usize,
 }
 
-// The difference, or 0.
-fn beyond(a: usize, b: usize) -> usize
-    ensures { result ≡ a - b }
-{
-    if a < b { 0 } else { a - b }
-}
-
 // Header byte i, as it is sent.
 fn head_byte(o: Obu, i: usize) -> u8
     requires { i < header_length o.header }
@@ -48,10 +41,8 @@ fn put_head(o: Obu, from: usize, n: usize, out: &mut [u8], at: usize)
     requires { (n ≤ header_length o.header - from) × (at + n ≤ length out.old) }
     ensures { out.new ≡ sets out.old at (take n (drop from (cleared o.header ∷ extension_bytes o.header o.extension))) }
 {
-    let mut i: usize = 0;
-    while i < n {
+    for i in 0..n {
         out[at + i] = head_byte(o, from + i);
-        i += 1;
     }
 }
 
@@ -61,9 +52,9 @@ fn put_part(unit: &[u8], o: Obu, from: usize, n: usize, out: &mut [u8], at: usiz
     ensures { (result ≡ at + n) × (out.new ≡ sets out.old at (take n (drop from (sent unit.now o)))) }
 {
     let head = obu::header_size(o.header);
-    let inside = base::smaller(n, beyond(head, from));
+    let inside = n.min(head.saturating_sub(from));
     put_head(o, from, inside, out, at);
-    let start = o.start as usize + beyond(from, head);
+    let start = o.start as usize + from.saturating_sub(head);
     base::copy_bytes(unit, start, n - inside, out, at + inside)
 }
 
@@ -83,11 +74,12 @@ fn put_element(
     ensures { (result ≡ at + (length (cond field (encode n) []) + n))
         × (out.new ≡ sets out.old at (cond field (encode n) [] ++ take n (drop from (sent unit.now o)))) }
 {
-    if field {
-        let next = leb128::put_leb128(out, at, n as u32);
-        return put_part(unit, o, from, n, out, next);
-    }
-    put_part(unit, o, from, n, out, at)
+    let next = if field {
+        leb128::put_leb128(out, at, n as u32)
+    } else {
+        at
+    };
+    put_part(unit, o, from, n, out, next)
 }
 
 // Writes packet k of a unit's plan, on which N is set if `new` says so, at the cursor `at`, and returns the cursor after it.
@@ -111,17 +103,15 @@ pub fn put_packet(
     let p = packetizer::packet_at(plan, k);
     out[at] = aggregation::header_byte(obus, plan, k, new);
     let mut cursor = at + 1;
-    let mut left = p.num_obu_elements as usize;
-    let mut i = p.first_obu_index as usize;
     let mut from = p.first_obu_offset as usize;
-    while left > 1 {
+    let first = p.first_obu_index as usize;
+    let last = first + p.num_obu_elements as usize - 1;
+    for i in first..last {
         let o = obu::obu_at(obus, i);
         cursor = put_element(unit, o, from, o.size as usize - from, true, out, cursor);
-        i += 1;
         from = 0;
-        left -= 1;
     }
-    let o = obu::obu_at(obus, i);
+    let o = obu::obu_at(obus, last);
     let n = p.last_obu_size as usize;
     let field = p.num_obu_elements > packetizer::MAX_NUM_OBUS_TO_OMIT_SIZE;
     put_element(unit, o, from, n, field, out, cursor)
@@ -155,12 +145,10 @@ fn put_packets(
     ensures { out.new ≡ sets out.old 0 (joined (take count (drop first (payloads_of mtu unit.now)))) }
 {
     let mut new = aggregation::new_at(unit, obus, first);
-    let mut n: usize = 0;
-    let mut at: usize = 0;
-    while n < count {
+    let mut at = 0;
+    for n in 0..count {
         at = put_packet(mtu, unit, obus, plan, first + n, new, out, at);
         new = false;
-        n += 1;
     }
 }
 
@@ -178,24 +166,16 @@ pub fn write_packets(
         ≡ write_packets first count (to_write mtu unit.now obus.now plan.now out.old) }
 {
     let planned = packetizer::same_plan(mtu, unit, obus, plan)?;
-    if beyond(planned.packets, first) < count {
+    if planned.packets.saturating_sub(first) < count {
         return Err(Refusal::NoUsablePacket.into());
     }
-    let listed = planned.obus * obu::OBU_NUMBERS;
-    let recorded = planned.packets * packetizer::PLAN_NUMBERS;
-    let bytes = run_bytes(&plan[..recorded], first, count);
+    let obus = &obus[..planned.obus * obu::OBU_NUMBERS];
+    let plan = &plan[..planned.packets * packetizer::PLAN_NUMBERS];
+    let bytes = run_bytes(plan, first, count);
     if out.len() < bytes {
         return Err(Refusal::NoRoomForPayloads.into());
     }
-    put_packets(
-        mtu,
-        unit,
-        &obus[..listed],
-        &plan[..recorded],
-        first,
-        count,
-        out,
-    );
+    put_packets(mtu, unit, obus, plan, first, count, out);
     Ok(Written { bytes })
 }
 

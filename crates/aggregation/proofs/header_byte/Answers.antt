@@ -7,9 +7,8 @@ use Rattle.obu.specs.Records.{obus_in}
 use Rattle.obu.specs.declared.Obu.{Obu}
 use Rattle.obu.proofs.Records.{obus_count}
 use Rattle.packetizer.specs.Records.{packets_in}
-use Rattle.packetizer.specs.declared.PacketMetadata.{PacketMetadata}
 use Rattle.packetizer.proofs.Records.{packets_count}
-use Rattle.aggregation.specs.Header.{lacking, byte_of}
+use Rattle.aggregation.specs.Header.{lacking}
 use Rattle.aggregation.proofs.Calls.{Whole, given_whole, whole_there}
 use Rattle.aggregation.proofs.header_byte.Goals as goal
 
@@ -32,10 +31,3 @@ obu_at-last-requires c =
     let whole : Whole c.requires.0 (obus) (packets_in c.args.plan.now) c.args.k = given_whole c.requires.0 (obus) (packets_in c.args.plan.now) c.args.k c.requires.1 in
     let elements : (1 ≤ c.packet_at-p.result.num_obu_elements) × (c.packet_at-p.result.first_obu_index + c.packet_at-p.result.num_obu_elements ≤ length (obus)) = whole_there (length (obus)) c.packet_at-p.result (ap (lacking (length (obus))) c.packet_at-p.ensures ∙ (whole).lacks_nothing) in
     omega (arith, elements, obus_count c.args.obus.now)
-
-pub returns : goal.returns
-returns c =
-    let obus : List Obu = obus_in c.args.obus.now in
-    λ unit new.
-    c.header_bits.ensures unit (obus) c.args.k (ap (λ (o : Obu). o.size) c.obu_at-last.ensures) new
-    ∙ ap (λ (p : PacketMetadata). byte_of unit (obus) p c.args.k) c.packet_at-p.ensures

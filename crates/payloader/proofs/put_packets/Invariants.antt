@@ -1,5 +1,5 @@
 use mathlib.Core.Path.{◌≡◌}
-use Prim.Native.Nat.{◌+◌, ◌-◌}
+use Prim.Native.Nat.{◌+◌}
 use mathlib.Core.Bool.{◌&&◌}
 use lib.Dec.{eqb}
 use Rattle.obu.specs.Unit.{obus_of}
@@ -9,6 +9,3 @@ use Rattle.payloader.proofs.put_packets.Given as goal
 
 abbrev pub invariant-loop-n : goal.invariant-loop-n
 invariant-loop-n l = Sending l.mtu l.unit l.first l.count l.initial.out l.out l.n l.at × (l.new ≡ (eqb (l.first + l.n) 0 && new_sequence l.unit (obus_of l.unit)))
-
-abbrev pub decreases-loop-n : goal.decreases-loop-n
-decreases-loop-n l = l.count - l.n

@@ -12,10 +12,10 @@ pub put_head-requires : goal.put_head-requires
 put_head-requires c = let o = c.args.o in
     let from = c.args.from in
     let n = c.args.n in
-    let e : c.smaller-inside.result ≡ min n (header_length o.header - from) =
-    c.smaller-inside.ensures ∙ ap (min n) (c.beyond.ensures ∙ ap (λ (x : ℕ). x - from) c.header_size-head.ensures) in
-    let a : c.smaller-inside.result ≤ header_length o.header - from = omega arith in
-    let b : c.args.at + c.smaller-inside.result ≤ length c.args.out.now = omega (arith, c.requires.2) in
+    let e : c.min-inside.result ≡ min n (header_length o.header - from) =
+    c.min-inside.ensures ∙ ap (min n) (c.saturating_sub.ensures ∙ ap (λ (x : ℕ). x - from) c.header_size-head.ensures) in
+    let a : c.min-inside.result ≤ header_length o.header - from = omega arith in
+    let b : c.args.at + c.min-inside.result ≤ length c.args.out.now = omega (arith, c.requires.2) in
     (a, b)
 
 pub returns : goal.returns
@@ -25,10 +25,10 @@ returns c = let o = c.args.o in
     let u = c.args.unit.now in
     let out = c.args.out.now in
     let at = c.args.at in
-    let e : c.smaller-inside.result ≡ in_head o from n =
-    c.smaller-inside.ensures ∙ ap (min n) (c.beyond.ensures ∙ ap (λ (x : ℕ). x - from) c.header_size-head.ensures) in
-    let s : o.start + c.beyond-2.result ≡ o.start + (from - header_length o.header) =
-    ap (λ (x : ℕ). o.start + x) (c.beyond-2.ensures ∙ ap (λ (x : ℕ). from - x) c.header_size-head.ensures) in
+    let e : c.min-inside.result ≡ in_head o from n =
+    c.min-inside.ensures ∙ ap (min n) (c.saturating_sub.ensures ∙ ap (λ (x : ℕ). x - from) c.header_size-head.ensures) in
+    let s : o.start + c.saturating_sub-2.result ≡ o.start + (from - header_length o.header) =
+    ap (λ (x : ℕ). o.start + x) (c.saturating_sub-2.ensures ∙ ap (λ (x : ℕ). from - x) c.header_size-head.ensures) in
     let k : length (take (in_head o from n) (drop from (head_of o))) ≡ in_head o from n =
     length-take-le (in_head o from n) (drop from (head_of o)) (omega (arith, length-drop from (head_of o), head_length o)) in (
       omega (arith, c.copy_bytes.ensures.0, e),

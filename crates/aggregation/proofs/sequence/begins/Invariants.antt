@@ -1,5 +1,4 @@
 use mathlib.Core.Path.{◌≡◌}
-use Prim.Native.Nat.{◌-◌, ◌≤◌}
 use mathlib.Core.Bool.{false}
 use lib.ListN.{drop}
 use Rattle.obu.specs.Records.{obus_in}
@@ -9,7 +8,4 @@ use Rattle.aggregation.proofs.sequence.begins.Given as goal
 
 -- not settled by the first i OBUs; the others go on from what these say
 abbrev pub invariant-loop-i : goal.invariant-loop-i
-invariant-loop-i l = (l.i ≤ l.n) × (settled l.seen ≡ false) × (seen_after l.unit l.seen (drop l.i (obus_in l.obus)) ≡ seen_after l.unit Nothing (obus_in l.obus))
-
-abbrev pub decreases-loop-i : goal.decreases-loop-i
-decreases-loop-i l = l.n - l.i
+invariant-loop-i l = (settled l.seen ≡ false) × (seen_after l.unit l.seen (drop l.i (obus_in l.obus)) ≡ seen_after l.unit Nothing (obus_in l.obus))
