@@ -3,15 +3,15 @@ use Prim.Native.Nat.{ℕ, ◌<◌}
 use native.Mathlib.Omega.{arith}
 use mathlib.Core.List.{List}
 use mathlib.Core.Bool.{Bool, cond}
+use borrow.Author.Rules.{rules}
 use lib.ListN.{length, get_or, drop}
-use Rattle.base.specs.Answers.{given}
+use Rattle.base.specs.Answers.{given, paper}
 use Rattle.obu.specs.Wire.{wire, padded_size}
 use Rattle.element.specs.Header.{w_of}
 use Rattle.element.specs.Elements.{element_at, has_field, nowhere}
 use Rattle.element.specs.declared.Part.{Part}
 use Rattle.element.proofs.Padded.{elements_few}
 use Rattle.handing.specs.Inside.{across, handed_of, parts_of}
-use Rattle.handing.specs.Paper.{paper_handed}
 use Rattle.handing.specs.declared.Handed.{Handed}
 use Rattle.handing.proofs.Cursors.{payload_some, payload_small, cursor_inside, read_at}
 use Rattle.handing.proofs.Wires.{sizes_one}
@@ -46,15 +46,16 @@ finish_obu-requires c =
     let l = handing_part v p.finishing.whole (here) c.loop-i-test.true (some) in
     let z = handing_size v p.finishing.whole (here) c.loop-i-test.true (some) in record { there = record { stored = v.stored; lies = omega (arith, l); some = l.some; small = omega (arith, z) }; room_at = handing_room v p.finishing.whole (here) c.loop-i-test.true (some) p.room_at }
 
-pub returns-in-Refused : goal.returns-in-Refused
-returns-in-Refused c =
+pub returns-in_err-one : goal.returns-in_err-one
+returns-in_err-one c =
     let part : Part = c.part_at-part.result in
     let some : c.loop-i.i < length (parts_of c.args.payload.now) = omega (arith, c.loop-i-test.true, c.requires.finishing.to_in) in
     let seen : let l = c.args.payload.now in let v = c.loop-i in element_at c.has_field.result v.at (drop v.at l) ≡ given (get_or (parts_of l) v.i nowhere) = let l = c.args.payload.now in let v = c.loop-i in ap (λ (c : Bool). element_at c v.at (drop v.at l)) (c.has_field.ensures ∙ ap (λ (w : ℕ). has_field w v.i) c.header_w-w.ensures) ∙ ap (λ (n : ℕ). element_at (has_field (w_of (get_or l 0 0)) v.i) n (drop n l)) v.invariant.cursor ∙ read_at l (parts_of l) c.requires.finishing.whole v.i (some) in
     let here : part ≡ get_or (parts_of c.args.payload.now) c.loop-i.i nowhere = let e : given (part) ≡ given (get_or (parts_of c.args.payload.now) c.loop-i.i nowhere) = c.part_at-part.ensures ∙ seen in cc in
     let p = c.requires in
+    let h =
     handing_broken c.loop-i.invariant p.finishing.whole (here) c.loop-i-test.true (some) _ _ p.room_at
-    (counted_refused _ _ (sym (ap paper_handed c.in-Refused.is) ∙ c.finish_obu.ensures.0)) _ c.finish_obu.ensures.1
+    (counted_refused _ _ (sym (ap paper c.in_err-one.was) ∙ c.finish_obu.ensures.0)) _ c.finish_obu.ensures.1 in (search rules, h.1)
 
 pub overflow_add-i : goal.overflow_add-i
 overflow_add-i c =
@@ -74,7 +75,7 @@ pub together-sum-requires : goal.together-sum-requires
 together-sum-requires c =
     let part : Part = c.part_at-part.result in
     let obu : List ℕ = let a = c.args in across a.store.now c.loop-i.kept a.payload.now (part).start (part).length in
-    let bytesOut : (b : List ℕ) × (wire (obu) ≡ given b) × (c.in-Bytes.one ≡ handed_of (cond (padded_size (obu)) 1 0) b) = counted_given _ (sym (ap paper_handed c.in-Bytes.is) ∙ c.finish_obu.ensures.0) in
+    let bytesOut : (b : List ℕ) × (wire (obu) ≡ given b) × (c.in_ok-one.one ≡ handed_of (cond (padded_size (obu)) 1 0) b) = counted_given _ (sym (ap paper c.in_ok-one.was) ∙ c.finish_obu.ensures.0) in
     let some : c.loop-i.i < length (parts_of c.args.payload.now) = omega (arith, c.loop-i-test.true, c.requires.finishing.to_in) in
     let seen : let l = c.args.payload.now in let v = c.loop-i in element_at c.has_field.result v.at (drop v.at l) ≡ given (get_or (parts_of l) v.i nowhere) = let l = c.args.payload.now in let v = c.loop-i in ap (λ (c : Bool). element_at c v.at (drop v.at l)) (c.has_field.ensures ∙ ap (λ (w : ℕ). has_field w v.i) c.header_w-w.ensures) ∙ ap (λ (n : ℕ). element_at (has_field (w_of (get_or l 0 0)) v.i) n (drop n l)) v.invariant.cursor ∙ read_at l (parts_of l) c.requires.finishing.whole v.i (some) in
     let here : part ≡ get_or (parts_of c.args.payload.now) c.loop-i.i nowhere = let e : given (part) ≡ given (get_or (parts_of c.args.payload.now) c.loop-i.i nowhere) = c.part_at-part.ensures ∙ seen in cc in
@@ -88,14 +89,14 @@ together-sum-requires c =
       omega (arith, ap (λ (h : Handed). h.padded) b.2, l, sizes_one (obu), v.few, s),
     )
 
-pub shape_of-out-in-Refused : goal.shape_of-out-in-Refused
-shape_of-out-in-Refused c = c.finish_obu.auto.out ∙ c.loop-i.invariant.same
+pub shape_of-out-in_err-one : goal.shape_of-out-in_err-one
+shape_of-out-in_err-one c = c.finish_obu.auto.out ∙ c.loop-i.invariant.same
 
 pub loop-i-preserved : goal.loop-i-preserved
 loop-i-preserved c =
     let part : Part = c.part_at-part.result in
     let obu : List ℕ = let a = c.args in across a.store.now c.loop-i.kept a.payload.now (part).start (part).length in
-    let bytesOut : (b : List ℕ) × (wire (obu) ≡ given b) × (c.in-Bytes.one ≡ handed_of (cond (padded_size (obu)) 1 0) b) = counted_given _ (sym (ap paper_handed c.in-Bytes.is) ∙ c.finish_obu.ensures.0) in
+    let bytesOut : (b : List ℕ) × (wire (obu) ≡ given b) × (c.in_ok-one.one ≡ handed_of (cond (padded_size (obu)) 1 0) b) = counted_given _ (sym (ap paper c.in_ok-one.was) ∙ c.finish_obu.ensures.0) in
     let some : c.loop-i.i < length (parts_of c.args.payload.now) = omega (arith, c.loop-i-test.true, c.requires.finishing.to_in) in
     let seen : let l = c.args.payload.now in let v = c.loop-i in element_at c.has_field.result v.at (drop v.at l) ≡ given (get_or (parts_of l) v.i nowhere) = let l = c.args.payload.now in let v = c.loop-i in ap (λ (c : Bool). element_at c v.at (drop v.at l)) (c.has_field.ensures ∙ ap (λ (w : ℕ). has_field w v.i) c.header_w-w.ensures) ∙ ap (λ (n : ℕ). element_at (has_field (w_of (get_or l 0 0)) v.i) n (drop n l)) v.invariant.cursor ∙ read_at l (parts_of l) c.requires.finishing.whole v.i (some) in
     let here : part ≡ get_or (parts_of c.args.payload.now) c.loop-i.i nowhere = let e : given (part) ≡ given (get_or (parts_of c.args.payload.now) c.loop-i.i nowhere) = c.part_at-part.ensures ∙ seen in cc in
