@@ -52,14 +52,14 @@ fn with_part(payload: &[u8], all: Walked, k: usize, at: usize, part: Part) -> Wa
     let elements = all.elements + 1;
     let padded = all.padded + padded_lengths(payload, at, part);
     Walked {
-        elements: elements,
+        elements,
         kept: kept_of(all.elements == k, part, kept),
         last: Part {
             start: part.start,
             length: part.length,
             next: part.next,
         },
-        padded: padded,
+        padded,
     }
 }
 
