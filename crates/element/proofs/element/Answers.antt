@@ -20,4 +20,3 @@ slice_bounds-result-end-2 c =
     let kept : let a = c.args in c.in-Ok.all.kept ≡ element_of a.payload.now a.k = let a = c.args in walked_kept a.k (payload_elements a.payload.now) (sym (ap paper_at c.in-Ok.is) ∙ c.walk_elements.ensures) in
     let inside : let p = c.in-Ok.all.kept in p.start + p.length ≤ length c.args.payload.now = let a = c.args in subst (λ (p : Part). p.start + p.length ≤ length a.payload.now) (sym (kept)) (chosen_in a.payload.now a.k) in
     inside
-

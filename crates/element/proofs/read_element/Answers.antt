@@ -14,8 +14,8 @@ returns-then-length-eq0 c =
     let read : let a = c.args in let s = c.in-Ok.size in sized s.value s.used ≡ size_field (take (length a.payload.now - a.at) (drop a.at a.payload.now)) = read_says _ (sym (ap paper c.in-Ok.is) ∙ c.read_leb128.ensures) in
     let told : let a = c.args in let s = c.in-Ok.size in counted a.at (length a.payload.now - a.at) (sized s.value s.used) ≡ element_at a.field a.at (drop a.at a.payload.now) = by_field_lem _ _ _ _ c.if-not-field.false c.requires (read) in
     elim c.then-length-eq0.branch [
-      then-length-eq0-via-then-length-eq0 w ↦ sym (field_zero _ _ _ _ w.if-length-eq0.true) ∙ told
-    | then-length-eq0-via-else-length-eq0+then-left-size w ↦ sym (field_past _ _ _ _ w.if-length-eq0.false w.if-left-size.true) ∙ told
+      | then-length-eq0-via-then-length-eq0 w ↦ sym (field_zero _ _ _ _ w.if-length-eq0.true) ∙ told
+      | then-length-eq0-via-else-length-eq0+then-left-size w ↦ sym (field_past _ _ _ _ w.if-length-eq0.false w.if-left-size.true) ∙ told
     ]
 
 pub overflow_sub-left-else-length-eq0 : goal.overflow_sub-left-else-length-eq0

@@ -11,6 +11,6 @@ use Rattle.element.proofs.walk_elements.Goals as goal
 pub returns-then-is_empty : goal.returns-then-is_empty
 returns-then-is_empty c = let a = c.args in
     let h : refused 13 0 ≡ walked a.k (payload_elements a.payload.now) = elim c.then-is_empty.branch [
-      then-is_empty-via-then-is_empty w ↦ sym (ap (walked a.k) (payload_empty a.payload.now (search rules)))
-    | then-is_empty-via-else-is_empty+then-payload-gt-PAYLOAD_LIMIT w ↦ sym (ap (walked a.k) (payload_long a.payload.now w.if-payload-gt-PAYLOAD_LIMIT.true))
+      | then-is_empty-via-then-is_empty w ↦ sym (ap (walked a.k) (payload_empty a.payload.now (search rules)))
+      | then-is_empty-via-else-is_empty+then-payload-gt-PAYLOAD_LIMIT w ↦ sym (ap (walked a.k) (payload_long a.payload.now w.if-payload-gt-PAYLOAD_LIMIT.true))
     ] in search rules

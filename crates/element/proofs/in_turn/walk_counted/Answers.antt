@@ -13,9 +13,6 @@ use Rattle.element.proofs.in_turn.walk_counted.Goals as goal
 pub loop-all-init : goal.loop-all-init
 loop-all-init c = walking_first c.args.payload.now c.args.w c.args.k c.requires.0 (due_counted c.args.w 0 (length c.args.payload.now - 1) c.requires.2 c.requires.2)
 
-pub overflow_add-all : goal.overflow_add-all
-overflow_add-all c = omega (arith, c.loop-all-test.true)
-
 pub returns-in_err-part : goal.returns-in_err-part
 returns-in_err-part c =
     let due : let a = c.args in is_due a.w c.loop-all.all.elements (length a.payload.now - c.loop-all.at) ≡ true = due_counted _ _ (length c.args.payload.now - c.loop-all.at) c.requires.2 c.loop-all-test.true in
