@@ -39,30 +39,17 @@ const NOTHING: Handed = Handed {
     padded: 0,
 };
 
-// Copies `size` bytes of one slice, from `start` on, into another, from `at` on.
-// Helper: `from` must have these bytes, and `to` the space for them.
-pub fn copy(to: &mut [u8], at: usize, from: &[u8], start: usize, size: usize)
-    requires { (at + size ≤ length to.old) × (start + size ≤ length from.now) }
-    ensures { to.new ≡ replaced to.old at (take size (drop start from.now)) }
-{
-    base::copy_bytes(from, start, size, to, at);
-}
-
 // Copies a fragment, from byte `skip` of it on.
 fn copy_across(to: &mut [u8], at: usize, store: &[u8], payload: &[u8], f: Fragment, skip: usize)
     requires { There store.now payload.now f × (skip ≤ f.kept + f.size) × (at + (f.kept + f.size - skip) ≤ length to.old) }
     ensures { to.new ≡ replaced to.old at (drop skip (fragment_of store.now payload.now f)) }
 {
-    let kept = f.kept;
-    let start = f.start;
-    let size = f.size;
-    if skip < kept {
-        let n = kept - skip;
-        copy(to, at, store, skip, n);
-        copy(to, at + n, payload, start, size);
+    if skip < f.kept {
+        let next = base::copy_bytes(store, skip, f.kept - skip, to, at);
+        base::copy_bytes(payload, f.start, f.size, to, next);
     } else {
-        let passed = skip - kept;
-        copy(to, at, payload, start + passed, size - passed);
+        let passed = skip - f.kept;
+        base::copy_bytes(payload, f.start + passed, f.size - passed, to, at);
     }
 }
 
@@ -71,16 +58,12 @@ fn judge_across(store: &[u8], payload: &[u8], f: Fragment) -> Result<Head, Refus
     requires { There store.now payload.now f }
     ensures { paper_whole result ≡ whole_of (fragment_of store.now payload.now f) }
 {
-    let kept = f.kept;
-    let start = f.start;
-    let size = f.size;
-    let mut head = [0u8; 10];
-    let a = base::smaller(kept, HEAD_BYTES);
-    let b = base::smaller(size, HEAD_BYTES - a);
-    copy(&mut head, 0, store, 0, a);
-    copy(&mut head, a, payload, start, b);
-    let n = a + b;
-    obu::whole_obu(&head[..n], kept + size)
+    let mut head = [0u8; HEAD_BYTES];
+    let a = f.kept.min(HEAD_BYTES);
+    let b = f.size.min(HEAD_BYTES - a);
+    head[..a].copy_from_slice(&store[..a]);
+    head[a..a + b].copy_from_slice(&payload[f.start..f.start + b]);
+    obu::whole_obu(&head[..a + b], f.kept + f.size)
 }
 
 // The OBU of exactly a fragment's bytes: those of the payload alone are judged where they stand.
@@ -89,9 +72,7 @@ fn judge(store: &[u8], payload: &[u8], f: Fragment) -> Result<Head, Refusal>
     ensures { paper_whole result ≡ whole_of (fragment_of store.now payload.now f) }
 {
     if f.kept == 0 {
-        let start = f.start;
-        let end = start + f.size;
-        return obu::whole_obu(&payload[start..end], f.size);
+        return obu::whole_obu(&payload[f.start..f.start + f.size], f.size);
     }
     judge_across(store, payload, f)
 }
