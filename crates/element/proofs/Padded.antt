@@ -54,15 +54,15 @@ part_fielded {payload} {at} field {p} h e =
     let l : Lies at (length payload) p = part_lies payload at field p h e in
     record { behind = l.after; within = omega (arith, l.ends, l.within); field = part_field field at (drop at payload) p e }
 
-pub padded_none : (at : ℕ) (p : Part) → p.start - at < 2 → padded_at at p ≡ 0
-padded_none at p h = rw (le-ltb (length (encode p.length)) (p.start - at) (omega (arith, encode_pos 5 p.length (omega arith))))
+pub padded_none : (at : ℕ) (p : Part) → p.start - at < 2 → is_padded p.length (p.start - at) ≡ false
+padded_none at p h = le-ltb (length (encode p.length)) (p.start - at) (omega (arith, encode_pos 5 p.length (omega arith)))
 
-pub padded_last : {payload : List ℕ} {at : ℕ} {p : Part} → Fielded payload at p → 2 ≤ p.start - at → padded_at at p ≡ cond (eqb (get_or payload (p.start - 1) 0) 0) 1 0
+pub padded_last : {payload : List ℕ} {at : ℕ} {p : Part} → Fielded payload at p → 2 ≤ p.start - at → is_padded p.length (p.start - at) ≡ eqb (get_or payload (p.start - 1) 0) 0
 padded_last {payload} {at} {p} f h =
     let n : ℕ = p.start - at in
     let i : at + (n - 1) ≡ p.start - 1 = omega arith in
     let e : get_or (drop at payload) (n - 1) 0 ≡ get_or payload (p.start - 1) 0 = get_or-drop at payload (n - 1) 0 ∙ ap (λ (m : ℕ). get_or payload m 0) i in
-    ap (λ (b : Bool). cond b 1 0) (last_zero (drop at payload) p.length n (f.field (omega arith)) h ∙ ap (λ (m : ℕ). eqb m 0) e)
+    last_zero (drop at payload) p.length n (f.field (omega arith)) h ∙ ap (λ (m : ℕ). eqb m 0) e
 
 -- ---- elements one after the other
 

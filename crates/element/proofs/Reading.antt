@@ -5,11 +5,9 @@ use native.Mathlib.Omega.{arith}
 use mathlib.Core.List.{List}
 use mathlib.Core.Bool.{Bool, true, false}
 use lib.ListN.{length, take, drop, length-drop}
-use lib.Dec.{eqb}
-use borrow.Author.Tests.{eq-eqb, ne_eqb, eqb-true, eqb-false, lt-ltb, le-ltb}
+use borrow.Author.Tests.{eq-eqb, ne_eqb, lt-ltb, le-ltb}
 use Rattle.base.specs.Answers.{given, refused}
 use Rattle.base.proofs.Lists.{part_from}
-use Rattle.base.proofs.Tests.{split_on}
 use Rattle.leb128.specs.Field.{Field, sized, size_field}
 use Rattle.leb128.proofs.Reading.{Sized, size_within}
 use Rattle.element.specs.Elements.{counted, remaining, element_at}
@@ -51,10 +49,3 @@ module _ (at left : ℕ) where
 
   pub rest_found : (left ≡ 0 → ⊥) → remaining at left ≡ given (record { start = at; length = left; next = at + left })
   rest_found z = rw (ne_eqb left 0 z)
-
--- ---- a test of n + 1 as one of n
-
-pub eqb_less : (n w : ℕ) → (w ≡ 0 → ⊥) → eqb n (w - 1) ≡ eqb (n + 1) w
-eqb_less n w z = split_on (eqb (n + 1) w)
-    (λ t. let e : n + 1 ≡ w = eqb-true (n + 1) w t in eq-eqb n (w - 1) (omega arith) ∙ sym t)
-    (λ t. ne_eqb n (w - 1) (λ e. eqb-false (n + 1) w t (omega arith)) ∙ sym t)

@@ -1,7 +1,8 @@
 // From element to element of a payload, by W (E2, E3, E5, F6): how many there are, element k, the last, and how many length fields are
 // padded.
-ghost use Rattle.std.specs.Prelude.{◌≡◌, ◌≤◌, ◌<◌, cond, length, drop};
-ghost use Rattle.element.specs.Elements.{payload_limit, counting, padded_at};
+ghost use Rattle.std.specs.Prelude.{◌≡◌, ◌-◌, ◌≤◌, ◌<◌, cond, length, drop};
+ghost use Rattle.leb128.specs.Field.{is_padded};
+ghost use Rattle.element.specs.Elements.{payload_limit, counting};
 ghost use Rattle.base.specs.Answers.{paper_at};
 ghost use Rattle.element.specs.Paper.{with_part, walked};
 ghost use Rattle.element.specs.Laws.{Fielded, Countable};
@@ -28,19 +29,12 @@ fn kept_of(here: bool, part: Part, kept: Part) -> Part
     }
 }
 
-// How many padded length fields an element has, which begins at `at`: one or none. A padded field has two bytes or more, and its last is 0.
-fn padded_lengths(payload: &[u8], at: usize, part: Part) -> usize
+// Whether an element, which begins at `at`, has a padded length field: one of two bytes or more, the last of which is 0.
+fn has_padded_length(payload: &[u8], at: usize, part: Part) -> bool
     requires { Fielded payload.now at part }
-    ensures { result ≡ padded_at at part }
+    ensures { result ≡ is_padded part.length (part.start - at) }
 {
-    let start = part.start;
-    if start - at < 2 {
-        return 0;
-    }
-    if payload[start - 1] == 0 {
-        return 1;
-    }
-    0
+    part.start - at >= 2 && payload[part.start - 1] == 0
 }
 
 // One element more, which begins at `at`: counted, kept if it is element k, and the last so far; number by number, as above.
@@ -48,18 +42,15 @@ fn with_part(payload: &[u8], all: Walked, k: usize, at: usize, part: Part) -> Wa
     requires { Countable payload.now all at part }
     ensures { result ≡ with_part k all at part }
 {
-    let kept = all.kept;
-    let elements = all.elements + 1;
-    let padded = all.padded + padded_lengths(payload, at, part);
     Walked {
-        elements: elements,
-        kept: kept_of(all.elements == k, part, kept),
+        elements: all.elements + 1,
+        kept: kept_of(all.elements == k, part, all.kept),
         last: Part {
             start: part.start,
             length: part.length,
             next: part.next,
         },
-        padded: padded,
+        padded: all.padded + usize::from(has_padded_length(payload, at, part)),
     }
 }
 

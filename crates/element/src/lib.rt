@@ -80,20 +80,14 @@ pub fn header_n(header: u8) -> bool
 fn new_with_continuation(header: u8) -> bool
     ensures { result ≡ (eqb (z_bit header) 1 && eqb (n_bit header) 1) }
 {
-    if header_z(header) {
-        return header_n(header);
-    }
-    false
+    header_z(header) && header_n(header)
 }
 
 // Whether element n has a length field: all but the last of W.
 pub fn has_field(w: usize, n: usize) -> bool
     ensures { result ≡ has_field w n }
 {
-    if w == 0 {
-        return true;
-    }
-    n != w - 1
+    w == 0 || n != w - 1
 }
 
 // The element at a cursor, with a length field or, without one, all that is left.
@@ -124,10 +118,7 @@ pub fn read_element(payload: &[u8], at: usize, field: bool) -> Result<Part, Refu
         });
     };
     let length = size.value as usize;
-    if length == 0 {
-        return Err(bad);
-    }
-    if left - size.used < length {
+    if length == 0 || left - size.used < length {
         return Err(bad);
     }
     let start = at + size.used;
@@ -181,10 +172,7 @@ pub fn walk_within(payload: &[u8], k: usize) -> Result<Walked, RefusedAt>
 pub fn walk_elements(payload: &[u8], k: usize) -> Result<Walked, RefusedAt>
     ensures { paper_at result ≡ walked k (payload_elements payload.now) }
 {
-    if payload.len() == 0 {
-        return Err(Refusal::PayloadLength.into());
-    }
-    if payload.len() > PAYLOAD_LIMIT {
+    if payload.is_empty() || payload.len() > PAYLOAD_LIMIT {
         return Err(Refusal::PayloadLength.into());
     }
     walk_within(payload, k)
@@ -195,13 +183,9 @@ pub fn element(payload: &[u8], k: usize) -> &[u8]
     ensures { (result.now ≡ bytes_of payload.now (element_of payload.now k))
         × (result.ref_ptr ≡ place_at payload.entry.ref_ptr (element_of payload.now k).start) }
 {
-    match walk_elements(payload, k) {
-        Ok(all) => {
-            let kept = all.kept;
-            let start = kept.start;
-            let end = start + kept.length;
-            &payload[start..end]
-        }
-        Err(_) => &payload[0..0],
-    }
+    let Ok(all) = walk_elements(payload, k) else {
+        return &payload[0..0];
+    };
+    let start = all.kept.start;
+    &payload[start..start + all.kept.length]
 }

@@ -2,9 +2,9 @@
 use mathlib.Core.Path.{◌≡◌, sym, ap, ap₂, ◌∙◌}
 use Prim.Native.Nat.{ℕ, ◌+◌, ◌-◌, ◌≤◌, ◌<◌, min}
 use native.Mathlib.Omega.{arith}
-use mathlib.Core.List.{List, ◌++◌}
+use mathlib.Core.List.{List, ◌++◌, append_assoc}
 use lib.ListN.{length, take, drop, length-append, length-drop}
-use lib.Seq.{length-take-le, take_at, take-take, take-append-le, take-append-add, drop-append-add, drop-append-le, drop-drop}
+use lib.Seq.{sets, length-take-le, take_at, take-take, take-append-le, take-append-add, drop-append-add, drop-append-le, drop-drop}
 use lib.Dec.{leb}
 use borrow.Author.Tests.{leb-true, leb-false}
 use Rattle.base.specs.Lists.{replaced}
@@ -12,7 +12,7 @@ use Rattle.base.proofs.Lists.{take_drop}
 use Rattle.base.proofs.Tests.{split_on}
 use Rattle.obu.specs.Front.{head_bytes}
 use Rattle.handing.specs.Inside.{across}
-use Rattle.handing.proofs.Lists.{replaced_more}
+use Rattle.handing.proofs.Lists.{replaced_more, copied}
 
 module _ (store payload : List ℕ) (kept start size : ℕ) (h : kept ≤ length store) (p : start + size ≤ length payload) where
   kept_length : length (take kept store) ≡ kept
@@ -52,18 +52,26 @@ module _ (store payload : List ℕ) (kept start size : ℕ) (h : kept ≤ length
       ∙ ap (take (size - k)) (drop-drop k start payload)
 
   module _ (to : List ℕ) (at skip : ℕ) where
-    pub copied_both : (one two : List ℕ) → skip < kept → at ≤ length to → one ≡ replaced to at (take (kept - skip) (drop skip store))
-        → two ≡ replaced one (at + (kept - skip)) (take size (drop start payload)) → two ≡ replaced to at (drop skip (across store kept payload start size))
-    copied_both one two s r e f =
+    pub copied_both : {one two : List ℕ} {next : ℕ} → skip < kept → at + (kept + size - skip) ≤ length to
+        → (next ≡ at + (kept - skip)) × (one ≡ sets to at (take (kept - skip) (drop skip store))) → length one ≡ length to
+        → two ≡ sets one next (take size (drop start payload)) → two ≡ replaced to at (drop skip (across store kept payload start size))
+    copied_both {one} {two} {next} s r e l g =
         let n : length (take (kept - skip) (drop skip store)) ≡ kept - skip = length-take-le (kept - skip) (drop skip store) (omega (arith, length-drop skip store)) in
-        f
-        ∙ ap₂ (λ (x : List ℕ) (k : ℕ). replaced x (at + k) (take size (drop start payload))) e (sym n)
-        ∙ replaced_more to at (take (kept - skip) (drop skip store)) (take size (drop start payload)) r
+        g
+        ∙ ap (λ (k : ℕ). sets one k (take size (drop start payload))) e.0
+        ∙ copied payload start size one (at + (kept - skip)) p (omega arith)
+        ∙ ap₂ (λ (x : List ℕ) (k : ℕ). replaced x (at + k) (take size (drop start payload)))
+        (e.1 ∙ copied store skip (kept - skip) to at (omega arith) (omega arith)) (sym n)
+        ∙ replaced_more to at (take (kept - skip) (drop skip store)) (take size (drop start payload)) (omega arith)
         ∙ ap (replaced to at) (sym (drop_in_store skip (omega arith)))
 
-    pub copied_last : (one : List ℕ) → kept ≤ skip → skip ≤ kept + size → one ≡ replaced to at (take (size - (skip - kept)) (drop (start + (skip - kept)) payload))
+    pub copied_last : {one : List ℕ} → kept ≤ skip → skip ≤ kept + size → at + (kept + size - skip) ≤ length to
+        → one ≡ sets to at (take (size - (skip - kept)) (drop (start + (skip - kept)) payload))
         → one ≡ replaced to at (drop skip (across store kept payload start size))
-    copied_last one s t e = e ∙ ap (replaced to at) (sym (drop_in_payload skip s t))
+    copied_last s t r e =
+        e
+        ∙ copied payload (start + (skip - kept)) (size - (skip - kept)) to at (omega arith) (omega arith)
+        ∙ ap (replaced to at) (sym (drop_in_payload skip s t))
 
   -- ---- the first ten
 
@@ -71,18 +79,19 @@ module _ (store payload : List ℕ) (kept start size : ℕ) (h : kept ≤ length
     pub head_count : a + b ≡ min head_bytes (kept + size)
     head_count = omega arith
 
-    -- an array of ten into which they are copied
-    pub head_copied : (zeros one two : List ℕ) → one ≡ replaced zeros 0 (take a (drop 0 store)) → two ≡ replaced one a (take b (drop start payload))
-        → take (a + b) two ≡ across store a payload start b
-    head_copied zeros one two e f =
+    -- they are copied into an array, one after the other
+    pub head_copied : {one two : List ℕ} (left after : List ℕ) → one ≡ take a store → two ≡ take (start + b - start) (drop start payload)
+        → take (a + b) (take a (one ++ left) ++ (two ++ after)) ≡ across store a payload start b
+    head_copied {one} {two} left after e g =
+        let n : start + b - start ≡ b = omega arith in
         let la : length (take a store) ≡ a = length-take-le a store (omega arith) in
         let lb : length (take b (drop start payload)) ≡ b = length-take-le b (drop start payload) (omega (arith, length-drop start payload)) in
-        let t : take a one ≡ take a store = ap (take a) e ∙ take_at (take a store) (drop (0 + length (take a store)) zeros) a la in
-        let n : length (take a one ++ take b (drop start payload)) ≡ a + b =
-        length-append (take a one) (take b (drop start payload)) ∙ ap₂ ◌+◌ (ap length t ∙ la) lb in
-        ap (take (a + b)) f
-        ∙ take_at (take a one ++ take b (drop start payload)) (drop (a + length (take b (drop start payload))) one) (a + b) n
-        ∙ ap (λ (x : List ℕ). x ++ take b (drop start payload)) t
+        let t : take a (one ++ left) ≡ take a store = take_at one left a (ap length e ∙ la) ∙ e in
+        let u : two ≡ take b (drop start payload) = g ∙ ap (λ (m : ℕ). take m (drop start payload)) n in
+        rw (t, u)
+        (ap (take (a + b)) (sym (append_assoc (take a store) (take b (drop start payload)) after))
+        ∙ take_at (take a store ++ take b (drop start payload)) after (a + b)
+        (length-append (take a store) (take b (drop start payload)) ∙ ap₂ ◌+◌ la lb))
 
     pub head_same : take head_bytes (across store kept payload start size) ≡ take head_bytes (across store a payload start b)
     head_same = split_on (leb head_bytes kept)

@@ -5,7 +5,7 @@ use native.Mathlib.Nat.{add-zero}
 use native.Mathlib.Omega.{arith}
 use mathlib.Core.List.{List, [], ◌++◌, append-nil, append_assoc}
 use lib.ListN.{length, take, drop, length-append, length-drop, take-append-drop}
-use lib.Seq.{length-take-le, take_at, drop-append-add, drop-drop}
+use lib.Seq.{sets, sets-eq, length-take-le, take_at, drop-append-add, drop-drop}
 use Rattle.base.specs.Lists.{replaced, front}
 
 module _ {A : Type 0} where
@@ -30,6 +30,13 @@ module _ {A : Type 0} where
     where
       sum : length (a ++ b) ≡ length a + length b → at + length a + length b ≡ at + length (a ++ b)
       sum e = omega arith
+
+  -- elements that are copied one by one
+  pub copied : (from : List A) (start n : ℕ) (to : List A) (at : ℕ) → start + n ≤ length from → at + n ≤ length to
+      → sets to at (take n (drop start from)) ≡ replaced to at (take n (drop start from))
+  copied from start n to at h k =
+      let m : length (take n (drop start from)) ≡ n = length-take-le n (drop start from) (omega (arith, length-drop start from)) in
+      sets-eq (take n (drop start from)) to at (omega arith)
 
   pub front_length : (new l : List A) → length new ≤ length l → length (front new l) ≡ length l
   front_length new l h = simp (length-append, length-drop) (omega arith)

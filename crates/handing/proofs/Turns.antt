@@ -15,14 +15,15 @@ use Rattle.leb128.proofs.Theorems.{size_most}
 use Rattle.obu.specs.Header.{type_of, drops}
 use Rattle.obu.specs.Front.{Front, start_of, span_of}
 use Rattle.obu.specs.Wire.{whole_of, framed, wire, padded_size}
-use Rattle.element.specs.Elements.{bytes_of, nowhere, payload_elements}
-use Rattle.element.specs.Laws.{Lies}
+use Rattle.element.specs.Header.{w_of}
+use Rattle.element.specs.Elements.{bytes_of, nowhere, element_at, has_field}
+use Rattle.element.specs.Laws.{Lies, Stands}
 use Rattle.element.specs.declared.Part.{Part}
 use Rattle.handing.specs.Handing.{fragment_limit, before, wires, padded_sizes}
-use Rattle.handing.specs.Inside.{across, handed_of, both, counted, counted_all, RoomAt, put_at, put_first, parts_of, cursor_of, led, between, Finishing}
+use Rattle.handing.specs.Inside.{There, across, handed_of, both, counted, counted_all, RoomAt, put_at, put_first, parts_of, cursor_of, led, between, Finishing}
 use Rattle.handing.specs.declared.Handed.{Handed}
 use Rattle.handing.proofs.Wires.{before_assoc, before_none, sizes_none, sizes_next, sizes_one}
-use Rattle.handing.proofs.Cursors.{cursor_next, cursor_some, payload_small, part_at}
+use Rattle.handing.proofs.Cursors.{cursor_next, cursor_some, cursor_inside, payload_small, read_at, part_at}
 use Rattle.handing.proofs.Across.{across_length}
 use Rattle.handing.proofs.Framing.{out_length, whole_spans, wire_dropped, wire_kept, wire_broken}
 
@@ -131,8 +132,14 @@ handing_first {payload} {store} {cursor} {from} {to} {joined} f write out =
     same true = refl
     same false = refl
 
-module _ {payload store : List ℕ} {from to joined : ℕ} {write : Bool} {out₀ : List ℕ} {at i kept : ℕ} {sum : Handed} {out : List ℕ}
-    (s : Handing payload store from to joined write out₀ at i kept sum out) (whole : payload_elements payload ≡ given (parts_of payload)) where
+-- this part is element i, of which OBU `to` has not come yet
+pub record Turn (payload : List ℕ) (i to : ℕ) (p : Part) : Type 0 where
+  pub here : p ≡ get_or (parts_of payload) i nowhere
+  pub more : i < to
+  pub some : i < length (parts_of payload)
+
+module _ {payload store : List ℕ} {cursor from to joined : ℕ} {write : Bool} {out₀ : List ℕ} {at i kept : ℕ} {sum : Handed} {out : List ℕ}
+    (s : Handing payload store from to joined write out₀ at i kept sum out) (f : Finishing payload cursor from to store joined) where
   -- the answer, and what stands in the output
   abbrev Ends : Answer Handed → Type 0
   Ends answer =
@@ -149,14 +156,41 @@ module _ {payload store : List ℕ} {from to joined : ℕ} {write : Bool} {out�
       let c : sum ≡ handed_of (padded_sizes (between store joined payload from to)) s.done = ap₂ (λ (b m : ℕ). record { bytes = b; padded = m }) s.bytes_done p in
       (ap given c ∙ sym (ap (counted (padded_sizes (between store joined payload from to))) e), s.wrote ∙ ap (λ (w : Answer (List ℕ)). cond write (put_first out₀ w) out₀) (sym e))
 
-  module _ {p : Part} (here : p ≡ get_or (parts_of payload) i nowhere) (more : i < to) (some : i < length (parts_of payload)) where
+  -- element i is read at its cursor
+  module _ {w : ℕ} {field : Bool} (more : i < to) (v : w ≡ w_of (get_or payload 0 0)) (e : field ≡ has_field w i) where
+    read_here : element_at field at (drop at payload) ≡ given (get_or (parts_of payload) i nowhere)
+    read_here =
+        ap (λ (t : Bool). element_at t at (drop at payload)) (e ∙ ap (λ (n : ℕ). has_field n i) v)
+        ∙ ap (λ (n : ℕ). element_at (has_field (w_of (get_or payload 0 0)) i) n (drop n payload)) s.cursor
+        ∙ read_at payload (parts_of payload) f.whole i (omega (arith, f.to_in))
+
+    pub handing_stands : Stands field at payload
+    handing_stands =
+        record {
+          inside = rw s.cursor (cursor_inside payload (parts_of payload) f.whole i s.within);
+          part = get_or (parts_of payload) i nowhere;
+          is = read_here;
+        }
+
+    pub handing_turn : {p : Part} → given p ≡ element_at field at (drop at payload) → Turn payload i to p
+    handing_turn {p} q =
+        let g : given p ≡ given (get_or (parts_of payload) i nowhere) = q ∙ read_here in
+        record { here = cc; more = more; some = omega (arith, f.to_in) }
+
+  module _ {p : Part} (t : Turn payload i to p) where
     pub handing_part : Lies at (length payload) p
     handing_part =
-        subst (λ (q : Part). Lies at (length payload) q) (sym here)
-        (subst (λ (n : ℕ). Lies n (length payload) (get_or (parts_of payload) i nowhere)) (sym s.cursor) (part_at payload (parts_of payload) whole i some))
+        subst (λ (q : Part). Lies at (length payload) q) (sym t.here)
+        (subst (λ (n : ℕ). Lies n (length payload) (get_or (parts_of payload) i nowhere)) (sym s.cursor) (part_at payload (parts_of payload) f.whole i t.some))
 
     pub handing_size : kept + p.length < 2097152
-    handing_size = let l = handing_part in omega (arith, s.small, s.cursor, payload_small payload (parts_of payload) whole, cursor_some payload (parts_of payload) whole i s.within)
+    handing_size = let l = handing_part in omega (arith, s.small, s.cursor, payload_small payload (parts_of payload) f.whole, cursor_some payload (parts_of payload) f.whole i s.within)
+
+    pub handing_there : There store payload (record { kept = kept; start = p.start; size = p.length })
+    handing_there =
+        let l = handing_part in
+        let z = handing_size in
+        record { stored = s.stored; lies = omega (arith, l); some = l.some; small = omega (arith, z) }
 
     -- the OBU that this element finishes
     abbrev obu : List ℕ
@@ -166,14 +200,14 @@ module _ {payload store : List ℕ} {from to joined : ℕ} {write : Bool} {out�
     unfolding wires
     all_next =
         s.all
-        ∙ ap (λ (os : List (List ℕ)). before (given s.done) (wires os)) (between_next store payload kept i to more some)
-        ∙ ap (λ (q : Part). before (given s.done) (before (wire (across store kept payload q.start q.length)) (wires (between store 0 payload (i + 1) to)))) (sym here)
+        ∙ ap (λ (os : List (List ℕ)). before (given s.done) (wires os)) (between_next store payload kept i to t.more t.some)
+        ∙ ap (λ (q : Part). before (given s.done) (before (wire (across store kept payload q.start q.length)) (wires (between store 0 payload (i + 1) to)))) (sym t.here)
 
     -- the padded size fields that are left
     sizes_left : padded_sizes (between store kept payload i to) ≡ cond (padded_size obu) 1 0 + padded_sizes (between store 0 payload (i + 1) to)
     sizes_left =
-        ap padded_sizes (between_next store payload kept i to more some)
-        ∙ ap (λ (q : Part). padded_sizes (across store kept payload q.start q.length ∷ between store 0 payload (i + 1) to)) (sym here)
+        ap padded_sizes (between_next store payload kept i to t.more t.some)
+        ∙ ap (λ (q : Part). padded_sizes (across store kept payload q.start q.length ∷ between store 0 payload (i + 1) to)) (sym t.here)
         ∙ sizes_next obu (between store 0 payload (i + 1) to)
 
     pub handing_most : (b : List ℕ) → wire obu ≡ given b → length b ≤ kept + p.length + 3
@@ -182,20 +216,29 @@ module _ {payload store : List ℕ} {from to joined : ℕ} {write : Bool} {out�
         let n : length obu ≡ kept + p.length = across_length store payload kept p.start p.length s.stored (omega arith) in
         omega (arith, n, handing_size, wire_grows obu b (omega (arith, n, handing_size)) e)
 
+    -- what it adds fits
+    pub handing_fits : {b : List ℕ} {one : Handed} → wire obu ≡ given b → one ≡ handed_of (cond (padded_size obu) 1 0) b
+        → (sum.bytes + one.bytes < 18446744073709551616) × (sum.padded + one.padded < 18446744073709551616)
+    handing_fits {b} {one} e l =
+        let h = handing_part in
+        let m = handing_most b e in
+        let z = payload_small payload (parts_of payload) f.whole in
+        (omega (arith, ap (λ (h : Handed). h.bytes) l, h, m, s.bound, z, s.small), omega (arith, ap (λ (h : Handed). h.padded) l, h, sizes_one obu, s.few, z))
+
     pub handing_room : (write ≡ true → RoomAt (length out₀) 0 (wires (between store joined payload from to))) → write ≡ true → RoomAt (length out) sum.bytes (wire obu)
     handing_room room t =
         let r : RoomAt (length out₀) (length s.done) (wire obu) =
         room_next (length out₀) s.done (wire obu) (wires (between store 0 payload (i + 1) to)) (subst (RoomAt (length out₀) 0) all_next (room t)) in
         rw (s.same, s.bytes_done) r
 
-    pub handing_broken : (n a : ℕ) → (write ≡ true → RoomAt (length out₀) 0 (wires (between store joined payload from to))) → wire obu ≡ refused n a
-        → (new : List ℕ) → new ≡ cond write (put_at out sum.bytes (wire obu)) out
+    pub handing_broken : {n a : ℕ} → (write ≡ true → RoomAt (length out₀) 0 (wires (between store joined payload from to))) → wire obu ≡ refused n a
+        → {new : List ℕ} → new ≡ cond write (put_at out sum.bytes (wire obu)) out
         → (refused n a ≡ counted_all (between store joined payload from to))
         × (new ≡ cond write (put_first out₀ (wires (between store joined payload from to))) out₀)
-    handing_broken n a room e new f =
+    handing_broken {n} {a} room e {new} g =
         let w : wires (between store joined payload from to) ≡ refused n a =
         all_next ∙ ap (λ (x : Answer (List ℕ)). before (given s.done) (before x (wires (between store 0 payload (i + 1) to)))) e in
-        (sym (ap (counted (padded_sizes (between store joined payload from to))) w), f ∙ rw (e, w) (unwritten write (λ t. subst (RoomAt (length out₀) 0) w (room t)) s.wrote))
+        (sym (ap (counted (padded_sizes (between store joined payload from to))) w), g ∙ rw (e, w) (unwritten write (λ t. subst (RoomAt (length out₀) 0) w (room t)) s.wrote))
       where
         unwritten : (t : Bool) → (t ≡ true → ⊥) → out ≡ cond t (front s.done out₀) out₀ → cond t out out ≡ cond t out₀ out₀
         unwritten true never e = absurd (never refl)
@@ -204,13 +247,13 @@ module _ {payload store : List ℕ} {from to joined : ℕ} {write : Bool} {out�
     pub handing_next : {new b : List ℕ} {one next : Handed} → wire obu ≡ given b → one ≡ handed_of (cond (padded_size obu) 1 0) b → next ≡ both sum one → length new ≡ length out
         → new ≡ cond write (put_at out sum.bytes (wire obu)) out
         → Handing payload store from to joined write out₀ p.next (i + 1) 0 next new
-    handing_next {new} {b} {one} {next} e l m k f =
+    handing_next {new} {b} {one} {next} e l m k g =
         let c : next ≡ both sum (handed_of (cond (padded_size obu) 1 0) b) = m ∙ ap (both sum) l in
         let n : next.bytes ≡ length (s.done ++ b) = omega (arith, ap (λ (h : Handed). h.bytes) c, s.bytes_done, length-append s.done b) in
         let q : next.padded ≡ sum.padded + cond (padded_size obu) 1 0 = ap (λ (h : Handed). h.padded) c in
         record {
           done = s.done ++ b;
-          cursor = ap (λ (q : Part). q.next) here ∙ sym (cursor_next (parts_of payload) i);
+          cursor = ap (λ (q : Part). q.next) t.here ∙ sym (cursor_next (parts_of payload) i);
           within = omega arith;
           stored = omega arith;
           small = omega arith;
@@ -219,7 +262,7 @@ module _ {payload store : List ℕ} {from to joined : ℕ} {write : Bool} {out�
           bytes_done = n;
           sizes_done = omega (arith, q, sizes_left, s.sizes_done);
           few = let h = handing_part in omega (arith, q, s.few, sizes_one obu);
-          wrote = f ∙ rw e (written write s.wrote);
+          wrote = g ∙ rw e (written write s.wrote);
           all =
               all_next
               ∙ ap (λ (x : Answer (List ℕ)). before (given s.done) (before x (wires (between store 0 payload (i + 1) to)))) e

@@ -1,14 +1,14 @@
 // OBUs that lie across store and payload (V8 to V12, F6, R18): judged, counted and handed out.
 #![tactic(auto)]
 
-ghost use Rattle.std.specs.Prelude.{◌≡◌, ◌+◌, ◌-◌, ◌≤◌, ◌<◌, true, cond, length, take, drop};
+ghost use Rattle.std.specs.Prelude.{◌≡◌, ◌+◌, ◌-◌, ◌≤◌, true, cond, length, take, drop};
 ghost use Rattle.base.specs.Lists.{replaced};
 ghost use Rattle.base.specs.Answers.{paper};
 ghost use Rattle.obu.specs.Front.{start_of, span_of};
 ghost use Rattle.obu.specs.Wire.{whole_of, framed, wire};
 ghost use Rattle.obu.specs.Paper.{paper_head, paper_whole};
 ghost use Rattle.handing.specs.Handing.{wires};
-ghost use Rattle.handing.specs.Inside.{There, both, counted_one, counted_all, RoomAt, put_at, put_first, between, Finishing};
+ghost use Rattle.handing.specs.Inside.{There, counted_one, counted_all, RoomAt, put_at, put_first, between, Finishing};
 ghost use Rattle.handing.specs.Paper.{fragment_of};
 
 use base::Refusal;
@@ -39,30 +39,17 @@ const NOTHING: Handed = Handed {
     padded: 0,
 };
 
-// Copies `size` bytes of one slice, from `start` on, into another, from `at` on.
-// Helper: `from` must have these bytes, and `to` the space for them.
-pub fn copy(to: &mut [u8], at: usize, from: &[u8], start: usize, size: usize)
-    requires { (at + size ≤ length to.old) × (start + size ≤ length from.now) }
-    ensures { to.new ≡ replaced to.old at (take size (drop start from.now)) }
-{
-    base::copy_bytes(from, start, size, to, at);
-}
-
 // Copies a fragment, from byte `skip` of it on.
 fn copy_across(to: &mut [u8], at: usize, store: &[u8], payload: &[u8], f: Fragment, skip: usize)
     requires { There store.now payload.now f × (skip ≤ f.kept + f.size) × (at + (f.kept + f.size - skip) ≤ length to.old) }
     ensures { to.new ≡ replaced to.old at (drop skip (fragment_of store.now payload.now f)) }
 {
-    let kept = f.kept;
-    let start = f.start;
-    let size = f.size;
-    if skip < kept {
-        let n = kept - skip;
-        copy(to, at, store, skip, n);
-        copy(to, at + n, payload, start, size);
+    if skip < f.kept {
+        let next = base::copy_bytes(store, skip, f.kept - skip, to, at);
+        base::copy_bytes(payload, f.start, f.size, to, next);
     } else {
-        let passed = skip - kept;
-        copy(to, at, payload, start + passed, size - passed);
+        let passed = skip - f.kept;
+        base::copy_bytes(payload, f.start + passed, f.size - passed, to, at);
     }
 }
 
@@ -71,16 +58,12 @@ fn judge_across(store: &[u8], payload: &[u8], f: Fragment) -> Result<Head, Refus
     requires { There store.now payload.now f }
     ensures { paper_whole result ≡ whole_of (fragment_of store.now payload.now f) }
 {
-    let kept = f.kept;
-    let start = f.start;
-    let size = f.size;
-    let mut head = [0u8; 10];
-    let a = base::smaller(kept, HEAD_BYTES);
-    let b = base::smaller(size, HEAD_BYTES - a);
-    copy(&mut head, 0, store, 0, a);
-    copy(&mut head, a, payload, start, b);
-    let n = a + b;
-    obu::whole_obu(&head[..n], kept + size)
+    let mut head = [0u8; HEAD_BYTES];
+    let a = f.kept.min(HEAD_BYTES);
+    let b = f.size.min(HEAD_BYTES - a);
+    head[..a].copy_from_slice(&store[..a]);
+    head[a..a + b].copy_from_slice(&payload[f.start..f.start + b]);
+    obu::whole_obu(&head[..a + b], f.kept + f.size)
 }
 
 // The OBU of exactly a fragment's bytes: those of the payload alone are judged where they stand.
@@ -89,37 +72,22 @@ fn judge(store: &[u8], payload: &[u8], f: Fragment) -> Result<Head, Refusal>
     ensures { paper_whole result ≡ whole_of (fragment_of store.now payload.now f) }
 {
     if f.kept == 0 {
-        let start = f.start;
-        let end = start + f.size;
-        return obu::whole_obu(&payload[start..end], f.size);
+        return obu::whole_obu(&payload[f.start..f.start + f.size], f.size);
     }
     judge_across(store, payload, f)
 }
 
-// Writes a fragment that is an OBU as it goes out, where told to: header bytes, shortest size field, payload.
-fn put_obu(
-    out: &mut [u8],
-    at: usize,
-    head: Head,
-    store: &[u8],
-    payload: &[u8],
-    f: Fragment,
-    write: bool,
-)
+// Writes a fragment that is an OBU as it goes out: header bytes, shortest size field, payload.
+fn put_obu(out: &mut [u8], at: usize, head: Head, store: &[u8], payload: &[u8], f: Fragment)
     requires there { There store.now payload.now f × (span_of (paper_head head) ≡ f.kept + f.size) }
-    requires f_in_bounds { write ≡ true
-        → at + length (framed head.header head.extension (drop (start_of (paper_head head)) (fragment_of store.now payload.now f))) ≤ length out.old }
-    ensures { out.new ≡ cond write
-        (replaced out.old at (framed head.header head.extension
-        (drop (start_of (paper_head head)) (fragment_of store.now payload.now f))))
-        out.old }
+    requires f_in_bounds { at + length (framed head.header head.extension (drop (start_of (paper_head head)) (fragment_of store.now payload.now f))) ≤ length out.old }
+    ensures { out.new ≡ replaced out.old at
+        (framed head.header head.extension (drop (start_of (paper_head head)) (fragment_of store.now payload.now f))) }
 {
-    if write {
-        let field = obu::put_header(out, at, head.header, head.extension);
-        let body = leb128::put_leb128(out, field, head.payload as u32);
-        let skip = obu::header_size(head.header) + head.field;
-        copy_across(out, body, store, payload, f, skip);
-    }
+    let field = obu::put_header(out, at, head.header, head.extension);
+    let body = leb128::put_leb128(out, field, head.payload as u32);
+    let skip = obu::header_size(head.header) + head.field;
+    copy_across(out, body, store, payload, f, skip);
 }
 
 // One finished OBU: judged, counted, and written at the cursor `at` where told to.
@@ -138,24 +106,15 @@ fn finish_obu(
 {
     let head = judge(store, payload, f)?;
     let field = leb128::leb128_size(head.payload as u32);
-    let padded = (field < head.field) as usize;
+    let padded = usize::from(field < head.field);
     if obu::should_ignore_obu_type(obu::obu_type(head.header)) {
         return Ok(Handed { bytes: 0, padded });
     }
-    put_obu(out, at, head, store, payload, f, write);
+    if write {
+        put_obu(out, at, head, store, payload, f);
+    }
     let bytes = obu::header_size(head.header) + field + head.payload;
     Ok(Handed { bytes, padded })
-}
-
-// What goes out for both.
-fn together(a: Handed, b: Handed) -> Handed
-    requires { (a.bytes + b.bytes < 18446744073709551616) × (a.padded + b.padded < 18446744073709551616) }
-    ensures { result ≡ both a b }
-{
-    Handed {
-        bytes: a.bytes + b.bytes,
-        padded: a.padded + b.padded,
-    }
 }
 
 // Elements `from` up to `to`, each finishing an OBU, the first with `joined` bytes of the store in front: counted, and written where told to.
@@ -176,20 +135,19 @@ fn hand_out(
 {
     let w = element::header_w(payload[0]);
     let mut at = cursor;
-    let mut i = from;
     let mut kept = joined;
     let mut sum = NOTHING;
-    while i < to {
+    for i in from..to {
         let part = element::part_at(payload, at, element::has_field(w, i));
         let f = Fragment {
-            kept: kept,
+            kept,
             start: part.start,
             size: part.length,
         };
         let one = finish_obu(store, payload, f, out, sum.bytes, write)?;
-        sum = together(sum, one);
+        sum.bytes += one.bytes;
+        sum.padded += one.padded;
         kept = 0;
-        i += 1;
         at = part.next;
     }
     Ok(sum)

@@ -8,8 +8,5 @@ use Rattle.element.proofs.header_w.Goals as goal
 bits : (h : ℕ) → bit_and h 48 / 16 ≡ h / 16 % 4
 bits h = ap (λ (x : ℕ). x / 16) (and_high h 2 4) ∙ omega arith
 
-pub overflow_cast-result : goal.overflow_cast-result
-overflow_cast-result c = omega (arith, bits c.args.header)
-
 pub returns : goal.returns
 returns c = bits c.args.header

@@ -1,9 +1,5 @@
-use Prim.Native.Nat.{◌-◌}
 use Rattle.handing.proofs.Turns.{Handing}
 use Rattle.handing.proofs.hand_out.Given as goal
 
 abbrev pub invariant-loop-i : goal.invariant-loop-i
 invariant-loop-i l = Handing l.payload l.store l.from l.to l.joined l.write l.initial.out l.at l.i l.kept l.sum l.out
-
-abbrev pub decreases-loop-i : goal.decreases-loop-i
-decreases-loop-i l = l.to - l.i
