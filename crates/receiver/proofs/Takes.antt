@@ -1,8 +1,9 @@
 -- A packet that is taken or refused: the call's definition, by what the code finds. Assumes nothing.
 use Rattle.std.proofs.Common.{◌≡◌, ℕ, ◌+◌, ◌-◌, ◌<◌, ◌≤◌, Bool, true, false, cond, ◌&&◌, eqb, ltb, List, [], ◌++◌, map, length, get_or, take, drop, sym, refl, ap, ◌∙◌, subst, ap₂, arith, length-append, length-take-le, le-ltb, lt-ltb}
-use lib.ListN.{length-map}
+use lib.ListN.{length-map, length-drop}
+use lib.Seq.{sets, sets-eq}
 use Rattle.base.specs.Answers.{Answer, given, refused}
-use Rattle.base.specs.Lists.{replaced, front}
+use Rattle.base.specs.Lists.{front}
 use Rattle.base.proofs.Tests.{by_cond}
 use Rattle.element.specs.Header.{z_bit, y_bit}
 use Rattle.element.specs.Elements.{bytes_of, padded_by, padded_lengths}
@@ -184,17 +185,18 @@ module _ {i : Inputs} {all : Walked} {z y : Bool} {k from to : ℕ} (s : Taking 
       taking_output o f = leaves_refused i (outcome_given ∙ fitted_output space room (leads bytes) fits o) f
 
       -- the bytes of the fragment stored, behind those that are there already
-      kept_stored : {store' : List ℕ} → store' ≡ replaced store r.kept (take r.size (drop r.start payload)) → store' ≡ front (left y js) store
+      kept_stored : {store' : List ℕ} → store' ≡ sets store r.kept (take r.size (drop r.start payload)) → store' ≡ front (left y js) store
       kept_stored f =
           let b : List ℕ = take r.size (drop r.start payload) in
           let q : length (take r.kept store) ≡ r.kept = length-take-le r.kept store (omega (arith, left_it.kept_most, kept_most.0)) in
           let m : r.kept + length b ≡ length (fragment_of store payload r) = omega (arith, length-append (take r.kept store) b) in
           f
+          ∙ sets-eq b store r.kept (omega (arith, long_not {size = r.kept + r.size} h, length-take-le r.size (drop r.start payload), length-drop r.start payload, left_it.lies))
           ∙ ap (λ (x : ℕ). fragment_of store payload r ++ drop x store) m
           ∙ ap (λ (x : List ℕ). front x store) (left_it.bytes store)
 
       pub taking_all : length bytes ≤ room → {count sizes : ℕ} {store' output' : List ℕ} → count ≡ length bytes → sizes ≡ padded_sizes (between store k payload from to)
-          → store' ≡ replaced store r.kept (take r.size (drop r.start payload)) → output' ≡ front bytes i.output
+          → store' ≡ sets store r.kept (take r.size (drop r.start payload)) → output' ≡ front bytes i.output
           → leaves
           (given
           (record {

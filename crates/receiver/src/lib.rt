@@ -47,59 +47,48 @@ pub struct Received {
     pub element_lost: bool,
 }
 
-// The forward distance, modulo 65,536.
-fn forward(last: u16, number: u16) -> u16
-    ensures { result ≡ distance last number }
-{
-    std::num::wrapping_sub_u16(number, last)
-}
-
-// Nothing was taken, or the distance is 1 to 32,767.
-fn is_ahead(begun: bool, last: u16, number: u16) -> bool
-    ensures { result ≡ is_ahead begun last number }
-{
-    if begun {
-        let steps = forward(last, number);
-        if steps == 0 {
-            return false;
-        }
-        return steps <= FURTHEST_AHEAD;
+impl State {
+    // The forward distance from the last number, modulo 65,536.
+    fn forward(self, number: u16) -> u16
+        ensures { result ≡ distance self.last number }
+    {
+        number.wrapping_sub(self.last)
     }
-    true
-}
 
-// Something was taken, and the distance is 1.
-fn is_in_step(begun: bool, last: u16, number: u16) -> bool
-    ensures { result ≡ is_in_step begun last number }
-{
-    if begun {
-        return forward(last, number) == 1;
+    // Nothing was taken, or the distance is 1 to 32,767.
+    #[tactic(auto, unfolding(crate::specs::Joining::is_ahead))]
+    fn is_ahead(self, number: u16) -> bool
+        ensures { result ≡ is_ahead self.begun self.last number }
+    {
+        !self.begun || (1..=FURTHEST_AHEAD).contains(&self.forward(number))
     }
-    false
-}
 
-// How many bytes of the open fragment the first element joins.
-fn joining(state: State, number: u16, z: bool) -> usize
-    ensures { result ≡ kept_bytes state (label number) z }
-{
-    if z {
-        if is_in_step(state.begun, state.last, number) {
-            return state.open;
+    // Something was taken, and the distance is 1.
+    #[tactic(auto, unfolding(crate::specs::Joining::is_in_step))]
+    fn is_in_step(self, number: u16) -> bool
+        ensures { result ≡ is_in_step self.begun self.last number }
+    {
+        self.begun && self.forward(number) == 1
+    }
+
+    // How many bytes of the open fragment the first element joins.
+    #[tactic(auto, unfolding(crate::specs::Joining::follows))]
+    fn joining(self, number: u16, z: bool) -> usize
+        ensures { result ≡ kept_bytes self (label number) z }
+    {
+        if z && self.is_in_step(number) {
+            self.open
+        } else {
+            0
         }
     }
-    0
 }
 
 // How many elements are thrown away: the first, with Z and nothing to join.
 fn thrown_away(z: bool, joined: usize) -> usize
     ensures { result ≡ thrown z joined }
 {
-    if z {
-        if joined == 0 {
-            return 1;
-        }
-    }
-    0
+    if z && joined == 0 { 1 } else { 0 }
 }
 
 // The cursor of the first element that counts; that of element 1 is `next`.
@@ -128,20 +117,19 @@ fn last_kept(n: usize, joined: usize) -> usize
 fn left_open(y: bool, from: usize, all: Walked, joined: usize) -> Fragment
     ensures { result ≡ left_open y from all joined }
 {
-    if y {
-        if from < all.elements {
-            let last = all.last;
-            return Fragment {
-                kept: last_kept(all.elements - from, joined),
-                start: last.start,
-                size: last.length,
-            };
+    if y && from < all.elements {
+        let last = all.last;
+        Fragment {
+            kept: last_kept(all.elements - from, joined),
+            start: last.start,
+            size: last.length,
         }
-    }
-    Fragment {
-        kept: 0,
-        start: 0,
-        size: 0,
+    } else {
+        Fragment {
+            kept: 0,
+            start: 0,
+            size: 0,
+        }
     }
 }
 
@@ -149,10 +137,7 @@ fn left_open(y: bool, from: usize, all: Walked, joined: usize) -> Fragment
 fn too_long(size: usize, space: usize) -> bool
     ensures { result ≡ too_long space size }
 {
-    if size > space {
-        return true;
-    }
-    size > handing::FRAGMENT_LIMIT
+    size > space || size > handing::FRAGMENT_LIMIT
 }
 
 // A packet that is ahead and has been read: everything is checked first and written after.
@@ -170,10 +155,9 @@ fn take_packet(
     let header = payload[0];
     let z = element::header_z(header);
     let y = element::header_y(header);
-    let joined = joining(state, number, z);
+    let joined = state.joining(number, z);
     let from = thrown_away(z, joined);
-    let first = all.kept;
-    let cursor = first_cursor(from, first.next);
+    let cursor = first_cursor(from, all.kept.next);
     let to = finished_end(y, all.elements);
     let handed = handing::count_out(payload, cursor, from, to, store, joined, out)?;
     let bytes = handed.bytes;
@@ -205,6 +189,7 @@ fn take_packet(
 }
 
 // Takes one packet.
+#[tactic(auto, unfolding(crate::specs::Call::outcome, crate::specs::Call::taken))]
 pub fn receive(
     state: State,
     number: u16,
@@ -217,17 +202,12 @@ pub fn receive(
     if too_long(state.open, store.len()) {
         return Err(Refusal::StateImpossible);
     }
-    if payload.len() == 0 {
+    if payload.is_empty() || payload.len() > element::PAYLOAD_LIMIT {
         return Err(Refusal::PayloadLength);
     }
-    if payload.len() > element::PAYLOAD_LIMIT {
-        return Err(Refusal::PayloadLength);
-    }
-    if !is_ahead(state.begun, state.last, number) {
+    if !state.is_ahead(number) {
         return Err(Refusal::NotAhead);
     }
-    match element::walk_within(payload, 0) {
-        Ok(all) => take_packet(state, number, payload, all, store, out),
-        Err(bad) => Err(bad.refusal),
-    }
+    let all = element::walk_within(payload, 0).map_err(|bad| bad.refusal)?;
+    take_packet(state, number, payload, all, store, out)
 }
