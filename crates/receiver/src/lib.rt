@@ -4,7 +4,8 @@
 ghost use Rattle.std.specs.Prelude.{◌≡◌, ◌≤◌, if◌then◌else◌, nat_eq};
 ghost use Rattle.receiver.specs.Joining.{distance, is_ahead, is_in_step, label};
 ghost use Rattle.receiver.specs.Call.{too_long, inputs, leaves, received};
-ghost use Rattle.receiver.specs.Inside.{kept_bytes, thrown, finished_end, left_open, Opened};
+ghost use Rattle.receiver.specs.Inside.{kept_bytes, thrown, finished_end, left_open, IsCut, Opened};
+ghost use Rattle.element.specs.Header.{z_bit, y_bit};
 ghost use Rattle.base.specs.Answers.{paper};
 
 use base::Refusal;
@@ -47,6 +48,17 @@ pub struct Received {
     pub element_lost: bool,
 }
 
+// How the elements of a packet are cut: `joined` bytes of the store go before the first; the first `from` are thrown away, and the one
+// after them begins at `cursor`; those up to `to` are finished; and what is left open.
+#[derive(Clone, Copy)]
+struct Cut {
+    joined: usize,
+    from: usize,
+    cursor: usize,
+    to: usize,
+    left: Fragment,
+}
+
 impl State {
     // The forward distance from the last number, modulo 65,536.
     fn forward(self, number: u16) -> u16
@@ -80,6 +92,24 @@ impl State {
             self.open
         } else {
             0
+        }
+    }
+
+    // How the elements of a packet with this number and header are cut.
+    fn cut(self, number: u16, header: u8, all: Walked) -> Cut
+        requires { 1 ≤ all.elements }
+        ensures { IsCut self (label number) (nat_eq (z_bit header) 1) (nat_eq (y_bit header) 1) all result }
+    {
+        let z = element::header_z(header);
+        let y = element::header_y(header);
+        let joined = self.joining(number, z);
+        let from = thrown_away(z, joined);
+        Cut {
+            joined,
+            from,
+            cursor: first_cursor(from, all.kept.next),
+            to: finished_end(y, all.elements),
+            left: left_open(y, from, all, joined),
         }
     }
 }
@@ -152,21 +182,19 @@ fn take_packet(
     requires { Opened (inputs state number payload.now store.old out.old) all }
     ensures { leaves (paper result) store.new out.new ≡ received (inputs state number payload.now store.old out.old) }
 {
-    let header = payload[0];
-    let z = element::header_z(header);
-    let y = element::header_y(header);
-    let joined = state.joining(number, z);
-    let from = thrown_away(z, joined);
-    let cursor = first_cursor(from, all.kept.next);
-    let to = finished_end(y, all.elements);
+    let Cut {
+        joined,
+        from,
+        cursor,
+        to,
+        left,
+    } = state.cut(number, payload[0], all);
     let handed = handing::count_out(payload, cursor, from, to, store, joined, out)?;
-    let bytes = handed.bytes;
-    let left = left_open(y, from, all, joined);
-    let size = left.kept + left.size;
-    if too_long(size, store.len()) {
+    let open = left.kept + left.size;
+    if too_long(open, store.len()) {
         return Err(Refusal::FragmentTooLong);
     }
-    if bytes > out.len() {
+    if handed.bytes > out.len() {
         return Err(Refusal::NoRoomForObus);
     }
     handing::write_out(payload, cursor, from, to, store, joined, out);
@@ -175,9 +203,9 @@ fn take_packet(
         state: State {
             begun: true,
             last: number,
-            open: size,
+            open,
         },
-        bytes,
+        bytes: handed.bytes,
         padded: Padded {
             lengths: all.padded,
             sizes: handed.padded,
