@@ -103,44 +103,17 @@ impl State {
         let z = element::header_z(header);
         let y = element::header_y(header);
         let joined = self.joining(number, z);
-        let from = thrown_away(z, joined);
+        // with Z and nothing to join, the first is thrown away
+        let from = usize::from(z && joined == 0);
         Cut {
             joined,
             from,
-            cursor: first_cursor(from, all.kept.next),
-            to: finished_end(y, all.elements),
+            cursor: if from == 0 { 1 } else { all.kept.next },
+            // with Y the last is not finished
+            to: all.elements - usize::from(y),
             left: left_open(y, from, all, joined),
         }
     }
-}
-
-// How many elements are thrown away: the first, with Z and nothing to join.
-fn thrown_away(z: bool, joined: usize) -> usize
-    ensures { result ≡ thrown z joined }
-{
-    if z && joined == 0 { 1 } else { 0 }
-}
-
-// The cursor of the first element that counts; that of element 1 is `next`.
-fn first_cursor(from: usize, next: usize) -> usize
-    ensures { result ≡ (if nat_eq from 0 then 1 else next) }
-{
-    if from == 0 { 1 } else { next }
-}
-
-// Up to which of n elements OBUs are finished: with Y the last is not.
-fn finished_end(y: bool, n: usize) -> usize
-    requires { 1 ≤ n }
-    ensures { result ≡ finished_end y n }
-{
-    if y { n - 1 } else { n }
-}
-
-// How many of the joined bytes the last of n elements has in front: all, if it is the only one.
-fn last_kept(n: usize, joined: usize) -> usize
-    ensures { result ≡ (if nat_eq n 1 then joined else 0) }
-{
-    if n == 1 { joined } else { 0 }
 }
 
 // What is left open of the elements from `from` on: with Y the last, else nothing.
@@ -150,7 +123,8 @@ fn left_open(y: bool, from: usize, all: Walked, joined: usize) -> Fragment
     if y && from < all.elements {
         let last = all.last;
         Fragment {
-            kept: last_kept(all.elements - from, joined),
+            // the joined bytes are in front of it if it is the only one
+            kept: if all.elements - from == 1 { joined } else { 0 },
             start: last.start,
             size: last.length,
         }
@@ -182,14 +156,11 @@ fn take_packet(
     requires { Opened (inputs state number payload.now store.old out.old) all }
     ensures { leaves (paper result) store.new out.new ≡ received (inputs state number payload.now store.old out.old) }
 {
-    let Cut {
-        joined,
-        from,
-        cursor,
-        to,
-        left,
-    } = state.cut(number, payload[0], all);
-    let handed = handing::count_out(payload, cursor, from, to, store, joined, out)?;
+    let cut = state.cut(number, payload[0], all);
+    let left = cut.left;
+    let handed = handing::count_out(
+        payload, cut.cursor, cut.from, cut.to, store, cut.joined, out,
+    )?;
     let open = left.kept + left.size;
     if too_long(open, store.len()) {
         return Err(Refusal::FragmentTooLong);
@@ -197,7 +168,9 @@ fn take_packet(
     if handed.bytes > out.len() {
         return Err(Refusal::NoRoomForObus);
     }
-    handing::write_out(payload, cursor, from, to, store, joined, out);
+    handing::write_out(
+        payload, cut.cursor, cut.from, cut.to, store, cut.joined, out,
+    );
     base::copy_bytes(payload, left.start, left.size, store, left.kept);
     Ok(Received {
         state: State {
@@ -211,8 +184,8 @@ fn take_packet(
             sizes: handed.padded,
         },
         // joined is all that was open, or nothing
-        fragment_lost: joined < state.open,
-        element_lost: from > 0,
+        fragment_lost: cut.joined < state.open,
+        element_lost: cut.from > 0,
     })
 }
 
