@@ -18,7 +18,7 @@ ghost use Rattle.train.specs.Train.{head_of, counted_width, front_of, record_fie
 ghost use Rattle.av1rtp.specs.Words.{number_in, words_in};
 ghost use Rattle.av1rtp.specs.Calls.{one, listed_words, PlanCrosses, WriteCrosses, field_words, element_count, state_in, state_words, Crosses, head_words, record_answer, record_words};
 
-use base::{Refusal, RefusedAt};
+use base::RefusedAt;
 use receiver::State;
 
 // What was asked for: success, and up to three numbers.
@@ -150,7 +150,7 @@ fn state_in(begun: usize, last: usize, open: usize) -> State
     State {
         begun: begun > 0,
         last: (last & 65535) as u16,
-        open: open,
+        open,
     }
 }
 

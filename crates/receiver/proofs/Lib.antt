@@ -1,5 +1,4 @@
 pub mod Rows
-pub mod Numbers
 pub mod Opens
 pub mod Takes
 pub mod Outcomes

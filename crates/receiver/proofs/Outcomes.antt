@@ -31,12 +31,6 @@ module _ (i : Inputs) where
   pub leaves_refused : {n a : ℕ} {output : List ℕ} → outcome i ≡ refused n a → output ≡ i.output → leaves (refused n a) i.store output ≡ received i
   leaves_refused e f = rw (e, f)
 
-  -- ---- R12
-
-  pub outcome_impossible : too_long (length i.store) i.state.«open» ≡ true → outcome i ≡ refused 12 0
-  unfolding outcome
-  outcome_impossible h = rw h
-
   -- ---- R13, R14
 
   module _ (h : too_long (length i.store) i.state.«open» ≡ false) where
@@ -44,15 +38,7 @@ module _ (i : Inputs) where
     unfolding outcome
     outcome_held = rw h
 
-    pub outcome_empty : length i.packet.payload ≡ 0 → outcome i ≡ refused 13 0
-    unfolding taken
-    outcome_empty e = outcome_held ∙ rw (eq-eqb (length i.packet.payload) 0 e)
-
     module _ (some : length i.packet.payload ≡ 0 → ⊥) where
-      pub outcome_long : payload_limit < length i.packet.payload → outcome i ≡ refused 13 0
-      unfolding taken
-      outcome_long l = outcome_held ∙ rw (ne_eqb (length i.packet.payload) 0 some, lt-ltb payload_limit (length i.packet.payload) l)
-
       module _ (l : length i.packet.payload ≤ payload_limit) (t : Bool) (e : t ≡ is_ahead i.state.begun i.state.last i.packet.label.number) where
         outcome_by : outcome i
             ≡ cond t (opened (length i.store) (length i.output) (held_in i.state i.store) i.packet (packet_of i.packet.payload)) (refused 14 0)
@@ -62,16 +48,6 @@ module _ (i : Inputs) where
         pub outcome_behind : t ≡ false → outcome i ≡ refused 14 0
         outcome_behind q = outcome_by ∙ rw q
 
-        -- ---- R15 to R17, as a walk over the elements finds them
-
-        pub outcome_unread : t ≡ true → (n at : ℕ) → refused n at ≡ walked 0 (payload_elements i.packet.payload) → outcome i ≡ refused n 0
-        outcome_unread q n at w = outcome_by ∙ rw q (go (payload_elements i.packet.payload) w)
-          where
-            go : (x : Answer (List Part)) → refused n at ≡ walked 0 x
-                → opened (length i.store) (length i.output) (held_in i.state i.store) i.packet (packet_by i.packet.payload x) ≡ refused n 0
-            go (given ps) e = let z : ◌≡◌ {A = ℕ} 0 1 = cc in absurd (omega arith)
-            go (refused m a) e = let f : m ≡ n = cc in ap (λ (x : ℕ). refused x 0) f
-
   -- ---- a packet that is ahead and has been read
 
   pub outcome_opened : {all : Walked} → Opened i all
@@ -80,12 +56,3 @@ module _ (i : Inputs) where
       let w = o.read.whole in
       let some = payload_some i.packet.payload (parts_of i.packet.payload) w in
       outcome_by o.possible (λ e. omega (arith, some)) (payload_small i.packet.payload (parts_of i.packet.payload) w) _ refl ∙ rw o.forward
-
-pub walked_read : (payload : List ℕ) {all : Walked} → given all ≡ walked 0 (payload_elements payload) → Read payload all
-walked_read payload {all} e =
-    let w = go (payload_elements payload) e in
-    record { whole = w.0; is = w.1 }
-  where
-    go : (x : Answer (List Part)) → given all ≡ walked 0 x → (x ≡ given (parts_by x)) × (all ≡ walked_of 0 (parts_by x))
-    go (given ps) e = let f : all ≡ walked_of 0 ps = cc in (refl, f)
-    go (refused n at) e = let z : ◌≡◌ {A = ℕ} 0 1 = cc in absurd (omega arith)

@@ -9,6 +9,7 @@ use Rattle.handing.specs.declared.Fragment.{Fragment}
 use Rattle.receiver.specs.Joining.{Label, ahead, follows}
 use Rattle.receiver.specs.Call.{Inputs, too_long, last_of, held_in}
 use Rattle.receiver.specs.declared.State.{State}
+use Rattle.receiver.specs.declared.Cut.{Cut}
 
 -- how many bytes of the store the first element joins
 abbrev pub kept_bytes : State → Label → Bool → ℕ
@@ -28,6 +29,14 @@ left_open y from all joined =
     cond (y && nat_lt from all.elements)
     (record { kept = cond (all.elements - from == 1) joined 0; start = all.last.start; size = all.last.length })
     (record { kept = 0; start = 0; size = 0 })
+
+-- how the elements of a packet with these flags are cut
+pub record IsCut (state : State) (l : Label) (z y : Bool) (all : Walked) (c : Cut) : Type 0 where
+  pub joined_is : c.joined ≡ kept_bytes state l z
+  pub from_is : c.from ≡ thrown z c.joined
+  pub cursor_is : c.cursor ≡ cond (c.from == 0) 1 all.kept.next
+  pub to_is : c.to ≡ finished_end y all.elements
+  pub left_is : c.left ≡ left_open y c.from all c.joined
 
 -- the payload has been read, and this is what its elements are
 pub record Read (payload : List ℕ) (all : Walked) : Type 0 where

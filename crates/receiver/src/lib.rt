@@ -4,7 +4,8 @@
 ghost use Rattle.std.specs.Prelude.{◌≡◌, ◌≤◌, if◌then◌else◌, nat_eq};
 ghost use Rattle.receiver.specs.Joining.{distance, is_ahead, is_in_step, label};
 ghost use Rattle.receiver.specs.Call.{too_long, inputs, leaves, received};
-ghost use Rattle.receiver.specs.Inside.{kept_bytes, thrown, finished_end, left_open, Opened};
+ghost use Rattle.receiver.specs.Inside.{kept_bytes, thrown, finished_end, left_open, IsCut, Opened};
+ghost use Rattle.element.specs.Header.{z_bit, y_bit};
 ghost use Rattle.base.specs.Answers.{paper};
 
 use base::Refusal;
@@ -47,101 +48,92 @@ pub struct Received {
     pub element_lost: bool,
 }
 
-// The forward distance, modulo 65,536.
-fn forward(last: u16, number: u16) -> u16
-    ensures { result ≡ distance last number }
-{
-    std::num::wrapping_sub_u16(number, last)
+// How the elements of a packet are cut: `joined` bytes of the store go before the first; the first `from` are thrown away, and the one
+// after them begins at `cursor`; those up to `to` are finished; and what is left open.
+#[derive(Clone, Copy)]
+struct Cut {
+    joined: usize,
+    from: usize,
+    cursor: usize,
+    to: usize,
+    left: Fragment,
 }
 
-// Nothing was taken, or the distance is 1 to 32,767.
-fn is_ahead(begun: bool, last: u16, number: u16) -> bool
-    ensures { result ≡ is_ahead begun last number }
-{
-    if begun {
-        let steps = forward(last, number);
-        if steps == 0 {
-            return false;
-        }
-        return steps <= FURTHEST_AHEAD;
+impl State {
+    // The forward distance from the last number, modulo 65,536.
+    fn forward(self, number: u16) -> u16
+        ensures { result ≡ distance self.last number }
+    {
+        number.wrapping_sub(self.last)
     }
-    true
-}
 
-// Something was taken, and the distance is 1.
-fn is_in_step(begun: bool, last: u16, number: u16) -> bool
-    ensures { result ≡ is_in_step begun last number }
-{
-    if begun {
-        return forward(last, number) == 1;
+    // Nothing was taken, or the distance is 1 to 32,767.
+    #[tactic(auto, unfolding(crate::specs::Joining::is_ahead))]
+    fn is_ahead(self, number: u16) -> bool
+        ensures { result ≡ is_ahead self.begun self.last number }
+    {
+        !self.begun || (1..=FURTHEST_AHEAD).contains(&self.forward(number))
     }
-    false
-}
 
-// How many bytes of the open fragment the first element joins.
-fn joining(state: State, number: u16, z: bool) -> usize
-    ensures { result ≡ kept_bytes state (label number) z }
-{
-    if z {
-        if is_in_step(state.begun, state.last, number) {
-            return state.open;
-        }
+    // Something was taken, and the distance is 1.
+    #[tactic(auto, unfolding(crate::specs::Joining::is_in_step))]
+    fn is_in_step(self, number: u16) -> bool
+        ensures { result ≡ is_in_step self.begun self.last number }
+    {
+        self.begun && self.forward(number) == 1
     }
-    0
-}
 
-// How many elements are thrown away: the first, with Z and nothing to join.
-fn thrown_away(z: bool, joined: usize) -> usize
-    ensures { result ≡ thrown z joined }
-{
-    if z {
-        if joined == 0 {
-            return 1;
+    // How many bytes of the open fragment the first element joins.
+    #[tactic(auto, unfolding(crate::specs::Joining::follows))]
+    fn joining(self, number: u16, z: bool) -> usize
+        ensures { result ≡ kept_bytes self (label number) z }
+    {
+        if z && self.is_in_step(number) {
+            self.open
+        } else {
+            0
         }
     }
-    0
-}
 
-// The cursor of the first element that counts; that of element 1 is `next`.
-fn first_cursor(from: usize, next: usize) -> usize
-    ensures { result ≡ (if nat_eq from 0 then 1 else next) }
-{
-    if from == 0 { 1 } else { next }
-}
-
-// Up to which of n elements OBUs are finished: with Y the last is not.
-fn finished_end(y: bool, n: usize) -> usize
-    requires { 1 ≤ n }
-    ensures { result ≡ finished_end y n }
-{
-    if y { n - 1 } else { n }
-}
-
-// How many of the joined bytes the last of n elements has in front: all, if it is the only one.
-fn last_kept(n: usize, joined: usize) -> usize
-    ensures { result ≡ (if nat_eq n 1 then joined else 0) }
-{
-    if n == 1 { joined } else { 0 }
+    // How the elements of a packet with this number and header are cut.
+    fn cut(self, number: u16, header: u8, all: Walked) -> Cut
+        requires { 1 ≤ all.elements }
+        ensures { IsCut self (label number) (nat_eq (z_bit header) 1) (nat_eq (y_bit header) 1) all result }
+    {
+        let z = element::header_z(header);
+        let y = element::header_y(header);
+        let joined = self.joining(number, z);
+        // with Z and nothing to join, the first is thrown away
+        let from = usize::from(z && joined == 0);
+        Cut {
+            joined,
+            from,
+            cursor: if from == 0 { 1 } else { all.kept.next },
+            // with Y the last is not finished
+            to: all.elements - usize::from(y),
+            left: left_open(y, from, all, joined),
+        }
+    }
 }
 
 // What is left open of the elements from `from` on: with Y the last, else nothing.
 fn left_open(y: bool, from: usize, all: Walked, joined: usize) -> Fragment
     ensures { result ≡ left_open y from all joined }
 {
-    if y {
-        if from < all.elements {
-            let last = all.last;
-            return Fragment {
-                kept: last_kept(all.elements - from, joined),
-                start: last.start,
-                size: last.length,
-            };
+    if y && from < all.elements {
+        let last = all.last;
+        Fragment {
+            // the joined bytes are in front of it if it is the only one
+            kept: if all.elements - from == 1 { joined } else { 0 },
+            start: last.start,
+            size: last.length,
         }
-    }
-    Fragment {
-        kept: 0,
-        start: 0,
-        size: 0,
+    } else {
+        Fragment {
+            kept: 0,
+            start: 0,
+            size: 0,
+        }
     }
 }
 
@@ -149,10 +141,7 @@ fn left_open(y: bool, from: usize, all: Walked, joined: usize) -> Fragment
 fn too_long(size: usize, space: usize) -> bool
     ensures { result ≡ too_long space size }
 {
-    if size > space {
-        return true;
-    }
-    size > handing::FRAGMENT_LIMIT
+    size > space || size > handing::FRAGMENT_LIMIT
 }
 
 // A packet that is ahead and has been read: everything is checked first and written after.
@@ -167,44 +156,41 @@ fn take_packet(
     requires { Opened (inputs state number payload.now store.old out.old) all }
     ensures { leaves (paper result) store.new out.new ≡ received (inputs state number payload.now store.old out.old) }
 {
-    let header = payload[0];
-    let z = element::header_z(header);
-    let y = element::header_y(header);
-    let joined = joining(state, number, z);
-    let from = thrown_away(z, joined);
-    let first = all.kept;
-    let cursor = first_cursor(from, first.next);
-    let to = finished_end(y, all.elements);
-    let handed = handing::count_out(payload, cursor, from, to, store, joined, out)?;
-    let bytes = handed.bytes;
-    let left = left_open(y, from, all, joined);
-    let size = left.kept + left.size;
-    if too_long(size, store.len()) {
+    let cut = state.cut(number, payload[0], all);
+    let left = cut.left;
+    let handed = handing::count_out(
+        payload, cut.cursor, cut.from, cut.to, store, cut.joined, out,
+    )?;
+    let open = left.kept + left.size;
+    if too_long(open, store.len()) {
         return Err(Refusal::FragmentTooLong);
     }
-    if bytes > out.len() {
+    if handed.bytes > out.len() {
         return Err(Refusal::NoRoomForObus);
     }
-    handing::write_out(payload, cursor, from, to, store, joined, out);
+    handing::write_out(
+        payload, cut.cursor, cut.from, cut.to, store, cut.joined, out,
+    );
     base::copy_bytes(payload, left.start, left.size, store, left.kept);
     Ok(Received {
         state: State {
             begun: true,
             last: number,
-            open: size,
+            open,
         },
-        bytes,
+        bytes: handed.bytes,
         padded: Padded {
             lengths: all.padded,
             sizes: handed.padded,
         },
         // joined is all that was open, or nothing
-        fragment_lost: joined < state.open,
-        element_lost: from > 0,
+        fragment_lost: cut.joined < state.open,
+        element_lost: cut.from > 0,
     })
 }
 
 // Takes one packet.
+#[tactic(auto, unfolding(crate::specs::Call::outcome, crate::specs::Call::taken))]
 pub fn receive(
     state: State,
     number: u16,
@@ -217,17 +203,12 @@ pub fn receive(
     if too_long(state.open, store.len()) {
         return Err(Refusal::StateImpossible);
     }
-    if payload.len() == 0 {
+    if payload.is_empty() || payload.len() > element::PAYLOAD_LIMIT {
         return Err(Refusal::PayloadLength);
     }
-    if payload.len() > element::PAYLOAD_LIMIT {
-        return Err(Refusal::PayloadLength);
-    }
-    if !is_ahead(state.begun, state.last, number) {
+    if !state.is_ahead(number) {
         return Err(Refusal::NotAhead);
     }
-    match element::walk_within(payload, 0) {
-        Ok(all) => take_packet(state, number, payload, all, store, out),
-        Err(bad) => Err(bad.refusal),
-    }
+    let all = element::walk_within(payload, 0).map_err(|bad| bad.refusal)?;
+    take_packet(state, number, payload, all, store, out)
 }

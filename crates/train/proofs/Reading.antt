@@ -1,13 +1,13 @@
--- The head of a file, and one record at the front of some bytes, by the tests that the code makes. Assumes nothing.
+-- The widths of the versions, and one record at the front of some bytes, by the tests that the code makes. Assumes nothing.
 use mathlib.Core.Path.{◌≡◌, refl, sym, ap, subst, ◌∙◌}
 use Prim.Native.Nat.{ℕ, ◌+◌, ◌-◌, ◌≤◌, ◌<◌}
 use native.Mathlib.Omega.{arith}
 use mathlib.Core.List.{List, [], ◌∷◌}
 use mathlib.Core.Bool.{cond}
-use lib.ListN.{length, get_or, take, drop, length-drop, drop_of_length-le}
+use lib.ListN.{length, take, drop, length-drop, drop_of_length-le}
 use lib.Dec.{ltb, eqb}
-use borrow.Author.Tests.{lt-ltb, le-ltb, ltb-false, eq-eqb, ne_eqb}
-use Rattle.base.specs.Answers.{Answer, given, refused}
+use borrow.Author.Tests.{lt-ltb, le-ltb, ltb-false}
+use Rattle.base.specs.Answers.{Answer, given}
 use Rattle.base.specs.BigEndian.{value_at}
 use Rattle.base.proofs.Lists.{part_from}
 use Rattle.base.proofs.Tests.{by_cond}
@@ -15,46 +15,6 @@ use Rattle.train.specs.Train.{short_head, long_head, head_with, head_of, counted
 use Rattle.train.specs.declared.TrainHead.{TrainHead}
 use Rattle.train.specs.declared.RecordFields.{RecordFields}
 use Rattle.train.specs.declared.RecordHead.{RecordHead}
-
--- ---- the version byte
-
-module _ (l : List ℕ) where
-  pub head_none : length l ≡ 0 → refused 21 0 ≡ head_of l
-  unfolding head_of
-  head_none = go l
-    where
-      go : (l : List ℕ) → length l ≡ 0 → refused 21 0 ≡ head_of l
-      go [] e = refl
-      go (v ∷ l) e = absurd (omega arith)
-
-  module _ (z : length l ≡ 0 → ⊥) where
-    abbrev version : ℕ
-    version = get_or l 0 0
-
-    head_some : head_of l ≡ head_with version
-    unfolding head_of
-    head_some = go l z
-      where
-        go : (l : List ℕ) → (length l ≡ 0 → ⊥) → head_of l ≡ head_with (get_or l 0 0)
-        go [] z = absurd (z refl)
-        go (v ∷ l) z = refl
-
-    pub head_short : version ≡ short_head.version → given (record { version = version; width = short_head.width }) ≡ head_of l
-    unfolding head_with
-    head_short e =
-        ap (λ (v : ℕ). given (record { version = v; width = short_head.width })) e
-        ∙ sym (head_some ∙ rw (eq-eqb version short_head.version e))
-
-    module _ (n : version ≡ short_head.version → ⊥) where
-      pub head_long : version ≡ long_head.version → given (record { version = version; width = long_head.width }) ≡ head_of l
-      unfolding head_with
-      head_long e =
-          ap (λ (v : ℕ). given (record { version = v; width = long_head.width })) e
-          ∙ sym (head_some ∙ rw (ne_eqb version short_head.version n, eq-eqb version long_head.version e))
-
-      pub head_other : (version ≡ long_head.version → ⊥) → refused 21 0 ≡ head_of l
-      unfolding head_with
-      head_other e = sym (head_some ∙ rw (ne_eqb version short_head.version n, ne_eqb version long_head.version e))
 
 -- ---- widths
 
@@ -82,11 +42,6 @@ counted_within w =
 
 -- ---- what stands before a payload
 
-pub fields_none : (w : ℕ) (l : List ℕ) → length l ≡ 0 → over ≡ fields_of w l
-unfolding fields_of
-fields_none w [] e = refl
-fields_none w (b ∷ l) e = absurd (omega arith)
-
 module _ (w : ℕ) (l : List ℕ) where
   -- fields of these numbers, and what the tests before them lead to
   abbrev fields : ℕ → ℕ → RecordFields
@@ -110,18 +65,12 @@ module _ (w : ℕ) (l : List ℕ) where
         go [] z = absurd (z refl)
         go (b ∷ l) z = refl
 
-    pub fields_cut : length l < w → bad 22 ≡ fields_of w l
-    fields_cut h = sym (fields_some ∙ rw (lt-ltb (length l) w h))
-
     -- the length field is there, and states so much
     module _ {v : ℕ} (h : w ≤ length l) (e : v ≡ value_at l 0 w) where
       pub fields_short : v < least_stated → bad 23 ≡ fields_of w l
       fields_short k = sym (fields_some ∙ rw (le-ltb (length l) w h, ← e, lt-ltb v least_stated k))
 
       module _ (k : least_stated ≤ v) where
-        pub number_cut : length l < w + number_width → bad 22 ≡ fields_of w l
-        number_cut c = sym (fields_some ∙ rw (le-ltb (length l) w h, ← e, le-ltb v least_stated k, lt-ltb (length l) (w + number_width) c))
-
         pub fields_there : {n : ℕ} → w + number_width ≤ length l → n ≡ value_at l w number_width → before (fields n v) ≡ fields_of w l
         fields_there c f =
             sym (fields_some ∙ rw (le-ltb (length l) w h, ← e, le-ltb v least_stated k, le-ltb (length l) (w + number_width) c, ← f))
@@ -198,10 +147,10 @@ module _ (w : ℕ) (bytes : List ℕ) (at : ℕ) where
     pub at_stated : {f : RecordFields} → before f ≡ fields_of w (take (length bytes - at) (drop at bytes)) → at + w + number_width ≤ length bytes
     at_stated e = omega (arith, (fields_state (e ∙ ap (fields_of w) (part_from bytes at h))).there, length-drop at bytes)
 
-    -- so does the payload, or it is cut
-    module _ (f : RecordFields) (there : at + w + number_width ≤ length bytes) where
-      pub at_cut : length bytes - (at + w + number_width) < f.length → stops 22 ≡ held_by w at (drop at bytes) f
-      at_cut k = held_cut w at (drop at bytes) f (omega (arith, length-drop at bytes))
-
-      pub at_whole : f.length ≤ length bytes - (at + w + number_width) → holds (head_at w at f) ≡ held_by w at (drop at bytes) f
-      at_whole k = held_whole w at (drop at bytes) f (omega (arith, length-drop at bytes))
+    -- so does the payload, if it is not cut
+    pub at_whole : {f : RecordFields} → before f ≡ fields_of w (take (length bytes - at) (drop at bytes))
+        → {n : ℕ} → n ≡ w → f.length ≤ length bytes - (at + w + number_width) → holds (head_at n at f) ≡ front_of w at (drop at bytes)
+    at_whole {f} e c k =
+        ap (λ (i : ℕ). holds (head_at i at f)) c
+        ∙ held_whole w at (drop at bytes) f (omega (arith, at_stated e, length-drop at bytes))
+        ∙ at_fields e

@@ -64,6 +64,7 @@ const LONG_HEAD: TrainHead = TrainHead {
 };
 
 // The head of a file.
+#[tactic(auto, unfolding(crate::specs::Train::head_of, crate::specs::Train::head_with))]
 pub fn read_head(bytes: &[u8]) -> Result<TrainHead, Refusal>
     ensures { paper result ≡ head_of bytes.now }
 {
@@ -79,15 +80,9 @@ pub fn head_for(most: usize) -> TrainHead
     ensures { result ≡ head_for most }
 {
     if SHORT_PAYLOAD < most {
-        TrainHead {
-            version: LONG_VERSION,
-            width: LONG_WIDTH,
-        }
+        LONG_HEAD
     } else {
-        TrainHead {
-            version: SHORT_VERSION,
-            width: SHORT_WIDTH,
-        }
+        SHORT_HEAD
     }
 }
 
@@ -104,11 +99,12 @@ fn counted_width(width: usize) -> usize
 
 // What stands before a payload, with a length field of this width, at the front of some bytes, or what there is of it. Any width but 4
 // counts as 2.
+#[tactic(auto, unfolding(crate::specs::Train::fields_of))]
 pub fn read_fields(bytes: &[u8], width: usize) -> Result<Option<RecordFields>, Refusal>
     ensures { paper_fields result ≡ fields_of (counted_width width) bytes.now }
 {
     let counted = counted_width(width);
-    if bytes.len() == 0 {
+    if bytes.is_empty() {
         return Ok(None);
     }
     if bytes.len() < counted {
@@ -129,6 +125,7 @@ pub fn read_fields(bytes: &[u8], width: usize) -> Result<Option<RecordFields>, R
 }
 
 // The record that begins at `at`, in a train with length fields of this width. Any width but 4 counts as 2.
+#[tactic(auto, using(crate::proofs::Reading::at_end, crate::proofs::Reading::at_stated, crate::proofs::Reading::at_fields, crate::proofs::Reading::at_whole), unfolding(crate::specs::Train::held_by))]
 pub fn read_record(bytes: &[u8], width: usize, at: usize) -> Result<Option<RecordHead>, Refusal>
     ensures { paper_record result ≡ front_of (counted_width width) at (drop at bytes.now) }
 {

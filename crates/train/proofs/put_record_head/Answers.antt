@@ -4,6 +4,3 @@ use Rattle.train.proofs.put_record_head.Goals as goal
 
 pub overflow_add-size : goal.overflow_add-size
 overflow_add-size c = omega (arith, writable_word c.requires)
-
-pub returns : goal.returns
-returns c = c.put_fields.ensures

@@ -1,8 +1,0 @@
-use Rattle.std.proofs.Common.{eq-eqb, ne_eqb}
-use Rattle.receiver.proofs.last_kept.Goals as goal
-
-pub returns-then-n-eq1 : goal.returns-then-n-eq1
-returns-then-n-eq1 c = rw (eq-eqb c.args.n 1 c.if-n-eq1.true)
-
-pub returns-else-n-eq1 : goal.returns-else-n-eq1
-returns-else-n-eq1 c = rw (ne_eqb c.args.n 1 c.if-n-eq1.false)
