@@ -7,4 +7,4 @@ use Rattle.packing.proofs.say.Goals as goal
 
 pub returns : goal.returns
 returns c = let p = awaits c.args.place wait.Nothing in
-    gives p c.awaiting-last.ensures tt (said p c.args.subject c.args.word 0 refl c.awaiting-last.ensures c.say.ensures (omega arith))
+    gives p c.awaiting.ensures tt (said p c.args.subject c.args.word 0 refl c.awaiting.ensures c.say.ensures (omega arith))
