@@ -90,8 +90,9 @@ pub fn start() -> Turn
 fn say(place: Place, subject: Subject, word: Word, line: &mut [u8; LINE_BYTES]) -> Turn
     ensures { Gives (says (awaits place Wait.Nothing) subject word 0) result line.old line.new }
 {
+    let last = awaiting(place, Wait::Nothing);
     Turn {
-        place: awaiting(place, Wait::Nothing),
+        place: last,
         order: turns::say(subject, word, 0, line),
     }
 }
@@ -120,21 +121,19 @@ fn head_step(
     ensures { Gives (head_told place (head_after version got.now)) result line.old line.new
         × (written.new ≡ front (head_told place (head_after version got.now)).written written.old) }
 {
-    match input::read_head(got, version) {
-        None => say(place, Subject::Input, Word::NoHead, line),
-        Some(head) => {
-            let train_head = train::head_for(head.mtu);
-            written[0] = train_head.version;
-            Turn {
-                place: Place {
-                    wait: Wait::Length,
-                    mtu: head.mtu,
-                    number: head.first,
-                    ..place
-                },
-                order: turns::ask(1, input::UNIT_WIDTH),
-            }
-        }
+    let Some(head) = input::read_head(got, version) else {
+        return say(place, Subject::Input, Word::NoHead, line);
+    };
+    let train_head = train::head_for(head.mtu);
+    written[0] = train_head.version;
+    Turn {
+        place: Place {
+            wait: Wait::Length,
+            mtu: head.mtu,
+            number: head.first,
+            ..place
+        },
+        order: turns::ask(1, input::UNIT_WIDTH),
     }
 }
 
