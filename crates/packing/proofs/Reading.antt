@@ -1,10 +1,11 @@
 -- The head and a unit's length, case by case. Assumes nothing.
-use Rattle.std.proofs.Common.{◌≡◌, ℕ, ◌<◌, ◌≤◌, cond, ◌||◌, ltb, List, [], ◌∷◌, length, get_or, take, drop, sym, refl, ap, ◌∙◌, ap₂, arith, take-take, ltb-false, le-ltb, lt-ltb, ne_eqb}
+use Rattle.std.proofs.Common.{◌≡◌, ℕ, ◌<◌, ◌≤◌, cond, ◌||◌, ltb, List, [], ◌∷◌, length, slice_get, take, drop, sym, refl, ap, ◌∙◌, ap₂, arith, take-take, ltb-false, le-ltb, lt-ltb}
+use Rattle.std.specs.Prelude.{Option, Some, None}
 use Rattle.base.proofs.Lists.{take_drop, short_front}
 use Rattle.base.proofs.Tests.{split_on, or_second}
 use Rattle.base.specs.BigEndian.{value_of, value_at}
 use Rattle.train.specs.Train.{number_width}
-use Rattle.packing.specs.Pack.{version_width, version_byte, mtu_width, known, other, version_with, version_in, rest_width, found, none, head_after, unit_width, unit_store, over, stated, cut, length_in}
+use Rattle.packing.specs.Pack.{version_width, version_byte, mtu_width, known, other, version_with, version_in, Version, rest_width, found, none, head_after, unit_width, unit_store, over, stated, cut, length_in}
 use Rattle.packing.specs.declared.input.InputVersion.{InputVersion}
 use Rattle.packing.specs.declared.input.InputVersion.TheVariants as version
 
@@ -15,21 +16,15 @@ unfolding version_in
 version_none [] h = refl
 version_none (b ∷ l) h = absurd (omega arith)
 
-version_by : (l : List ℕ) → (length l ≡ 0 → ⊥) → version_in l ≡ version_with (get_or l 0 0)
+-- by the first byte, if there is one
+abbrev pub version_at : Option ℕ → Version
+version_at None = other
+version_at (Some b) = version_with b
+
+pub version_first : (l : List ℕ) {o : Option ℕ} → o ≡ slice_get l 0 → version_at o ≡ version_in l
 unfolding version_in
-version_by [] h = absurd (h refl)
-version_by (b ∷ l) h = refl
-
-module _ (l : List ℕ) (some : length l ≡ 0 → ⊥) where
-  pub version_known : (v : InputVersion) → get_or l 0 0 ≡ version_byte v → known v ≡ version_in l
-  unfolding version_with
-  version_known version.Short e = sym (version_by l some ∙ rw e)
-  version_known version.Long e = sym (version_by l some ∙ rw e)
-
-  pub version_other : (get_or l 0 0 ≡ version_byte version.Short → ⊥) → (get_or l 0 0 ≡ version_byte version.Long → ⊥) → other ≡ version_in l
-  unfolding version_with
-  version_other s t =
-      sym (version_by l some ∙ rw (ne_eqb (get_or l 0 0) (version_byte version.Short) s, ne_eqb (get_or l 0 0) (version_byte version.Long) t))
+version_first [] e = ap version_at e
+version_first (b ∷ l) e = ap version_at e
 
 -- it is the first byte that tells
 pub version_front : (l : List ℕ) → version_in (take version_width l) ≡ version_in l

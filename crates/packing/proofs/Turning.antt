@@ -1,26 +1,25 @@
 -- A step gives the turn that is told, and leaves the stores ready for it. Assumes nothing.
 use Rattle.std.proofs.Common.{◌≡◌, ℕ, ◌≤◌, List, [], ◌∷◌, length, take, set, sym, refl, ap, ◌∙◌, arith, length-take, take-take}
+use Rattle.std.specs.Prelude.{Ok}
 use Rattle.base.specs.Lists.{front}
-use Rattle.turns.specs.Orders.{Told, Turned, arrival}
+use Rattle.turns.specs.Orders.{Told, Turned, Came, arrival}
 use Rattle.turns.specs.declared.Order.{Order}
-use Rattle.turns.specs.declared.Came.{Came}
-use Rattle.turns.specs.declared.Came.TheVariants as came
+use Rattle.turns.specs.declared.Turn.{Turn}
 use Rattle.packing.specs.Pack.{unit_store, Version, known, other, Head, found, none, Length, over, stated, cut, length_in, Unit', cut_short, refused_by, packed}
 use Rattle.packing.specs.Steps.{record_room, version_told, head_told, length_told, unit_told, told_by, told, Ready, ReadyBy, ReadyAt, Still, Gives}
 use Rattle.packing.specs.declared.unit.Progress.{Progress}
 use Rattle.packing.specs.declared.Wait.{Wait}
 use Rattle.packing.specs.declared.Wait.TheVariants as wait
 use Rattle.packing.specs.declared.Place.{Place}
-use Rattle.packing.specs.declared.Turn.{Turn}
 use Rattle.packing.proofs.Reading.{stated_within}
 
 -- where the run then stands is this place
-pub gives : {t : Told Place} {turn : Turn} {line line' : List ℕ} (p : Place) → turn.place ≡ p → Still p.wait turn.order
+pub gives : {t : Told Place} {turn : Turn Place} {line line' : List ℕ} (p : Place) → turn.place ≡ p → Still p.wait turn.order
     → Turned t turn.place turn.order line line' unit_store record_room → Gives t turn line line'
 gives p e h w = record { turned = w; still = rw e h }
 
 -- by the case that it is
-pub gives_as : {t u : Told Place} {turn : Turn} {line line' : List ℕ} → t ≡ u → Gives u turn line line' → Gives t turn line line'
+pub gives_as : {t u : Told Place} {turn : Turn Place} {line line' : List ℕ} → t ≡ u → Gives u turn line line' → Gives t turn line line'
 gives_as e g = rw e g
 
 -- ---- the stores
@@ -29,7 +28,7 @@ module _ (input obus plan : List ℕ) where
   pub ready_as : {p q : Place} → p ≡ q → ReadyAt q input obus plan → ReadyAt p input obus plan
   ready_as e r = rw e r
 
-  pub ready_given : {t : Told Place} {turn : Turn} {line line' : List ℕ} → Gives t turn line line' → ReadyAt t.place input obus plan → ReadyAt turn.place input obus plan
+  pub ready_given : {t : Told Place} {turn : Turn Place} {line line' : List ℕ} → Gives t turn line line' → ReadyAt t.place input obus plan → ReadyAt turn.place input obus plan
   ready_given {t} {turn} g r = ready_as {p = turn.place} {q = t.place} g.turned.0.place_is r
 
   pub version_ready : (p : Place) (x : Version) → ReadyAt (version_told p x).place input obus plan
@@ -98,7 +97,7 @@ unit_quiet p s (packed n) l = refl
 
 -- ---- the whole step, where n bytes were read and this was waited for
 
-pub stepped : (p : Place) (c : Came) (n : ℕ) (w : Wait) (input obus plan : List ℕ) (written : List ℕ) {turn : Turn} {line line' written' : List ℕ} → c ≡ came.Read n → p.wait ≡ w
+pub stepped : (p : Place) (c : Came) (n : ℕ) (w : Wait) (input obus plan : List ℕ) (written : List ℕ) {turn : Turn Place} {line line' written' : List ℕ} → c ≡ Ok n → p.wait ≡ w
     → Gives (told_by w p (take n input) input) turn line line'
     → written' ≡ front (told_by w p (take n input) input).written written
     → ReadyAt turn.place input obus plan

@@ -12,7 +12,6 @@ use Rattle.packetizer.proofs.Calls.{given_kept, listed_few}
 use Rattle.packetizer.proofs.Accepted.{accepted, obus_length, planned_lists}
 use Rattle.packing.specs.Pack.{unit_store, list_records, answer_in, cut_short, packed_by, unit_in}
 use Rattle.packing.specs.Steps.{obu_list_numbers, plan_list_numbers, begins, step_in, Ready}
-use Rattle.packing.specs.declared.unit.UnitAnswer.TheVariants as unit
 
 -- ---- what is known where the plan call has planned
 
@@ -40,12 +39,9 @@ module _ (mtu : ℕ) (unit obus plan : List ℕ) where
         plan_is = s.plan_same;
       })
 
--- the same, of a unit of s bytes and planned so
-pub begins_as : {mtu s : ℕ} {p q : Planned} {unit obus plan : List ℕ} → length unit ≡ s → p ≡ q → Ready mtu (begins (length unit) p) unit obus plan → Ready mtu (begins s q) unit obus plan
-begins_as {mtu} {s} {p} {q} {unit} {obus} {plan} e f r = rw (e, f) at r
-
-pub packed_one : {p q : Planned} → unit.Packed p ≡ unit.Packed q → p ≡ q
-packed_one e = cc
+-- the same, of a unit of s bytes
+pub begins_as : {mtu s : ℕ} {p : Planned} {unit obus plan : List ℕ} → length unit ≡ s → Ready mtu (begins (length unit) p) unit obus plan → Ready mtu (begins s p) unit obus plan
+begins_as {mtu} {s} {p} {unit} {obus} {plan} e r = rw e at r
 
 -- with the stores of the rules
 pub step_in_lem : (mtu s : ℕ) (l obus plan : List ℕ) → length obus ≡ obu_list_numbers → length plan ≡ plan_list_numbers

@@ -11,9 +11,9 @@ use Rattle.payloader.specs.Inside as payloader
 use Rattle.train.specs.Train.{long_head, head_for, number_width, record_bytes}
 use Rattle.train.specs.Laws.{Writable}
 use Rattle.turns.specs.Text.{line_bytes}
-use Rattle.turns.specs.Orders.{next_count, Told, ends, asks, says, Within, Turned, Arrival, bytes, read_failed, write_failed, CameWithin}
+use Rattle.turns.specs.Orders.{next_count, Told, ends, asks, says, Within, Turned, Arrival, bytes, read_failed, write_failed, Came, CameWithin}
 use Rattle.turns.specs.declared.Order.{Order}
-use Rattle.turns.specs.declared.Came.{Came}
+use Rattle.turns.specs.declared.Turn.{Turn}
 use Rattle.turns.specs.declared.Subject.{Subject}
 use Rattle.turns.specs.declared.Subject.TheVariants as subject
 use Rattle.turns.specs.declared.Word.TheVariants as word
@@ -22,7 +22,6 @@ use Rattle.packing.specs.declared.unit.Progress.{Progress}
 use Rattle.packing.specs.declared.Wait.{Wait}
 use Rattle.packing.specs.declared.Wait.TheVariants as wait
 use Rattle.packing.specs.declared.Place.{Place}
-use Rattle.packing.specs.declared.Turn.{Turn}
 
 -- the numbers of the OBU list and of the plan list, and the bytes that are lent for a record: those of one with as long a payload as
 -- the output holds (L14)
@@ -182,12 +181,12 @@ Still (wait.Packets g) o = o.read ≡ 0
 Still wait.Nothing o = Unit {0}
 
 -- the turn is the one told
-pub record Gives (t : Told Place) (turn : Turn) (line line' : List ℕ) : Type 0 where
+pub record Gives (t : Told Place) (turn : Turn Place) (line line' : List ℕ) : Type 0 where
   pub turned : Turned t turn.place turn.order line line' unit_store record_room
   pub still : Still turn.place.wait turn.order
 
 -- from here the program can go on: its order can be carried out, and the stores are ready for the next step
-pub record Goes (turn : Turn) (input obus plan : List ℕ) : Type 0 where
+pub record Goes (turn : Turn Place) (input obus plan : List ℕ) : Type 0 where
   pub within : Within turn.order unit_store record_room
   pub still : Still turn.place.wait turn.order
   pub ready : ReadyAt turn.place input obus plan

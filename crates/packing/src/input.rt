@@ -26,12 +26,6 @@ pub enum InputVersion {
     Long,
 }
 
-#[derive(Clone, Copy)]
-pub enum VersionRead {
-    Known(InputVersion),
-    Other,
-}
-
 // The head of the input.
 #[derive(Clone, Copy)]
 pub struct PackHead {
@@ -39,35 +33,19 @@ pub struct PackHead {
     pub first: u16,
 }
 
+// A unit is cut.
 #[derive(Clone, Copy)]
-pub enum PackHeadRead {
-    Head(PackHead),
-    NoHead,
-}
-
-// The length of a unit: a cut field or a unit over the store counts as cut.
-#[derive(Clone, Copy)]
-pub enum UnitLength {
-    Stated(usize),
-    End,
-    Cut,
-}
+pub struct Cut;
 
 // The version of the input, if there is a version byte, and one that is known.
-pub fn read_version(bytes: &[u8]) -> VersionRead
+pub fn read_version(bytes: &[u8]) -> Option<InputVersion>
     ensures { paper_version result ≡ version_in bytes.now }
 {
-    if bytes.len() == 0 {
-        return VersionRead::Other;
+    match *bytes.first()? {
+        SHORT_VERSION => Some(InputVersion::Short),
+        LONG_VERSION => Some(InputVersion::Long),
+        _ => None,
     }
-    let version = bytes[0];
-    if version == SHORT_VERSION {
-        return VersionRead::Known(InputVersion::Short);
-    }
-    if version == LONG_VERSION {
-        return VersionRead::Known(InputVersion::Long);
-    }
-    VersionRead::Other
 }
 
 // How many bytes the mtu of such an input has.
@@ -80,35 +58,32 @@ pub fn mtu_width(version: InputVersion) -> usize
     }
 }
 
-// What stands behind the version byte, or what there is of it.
-pub fn read_head(bytes: &[u8], version: InputVersion) -> PackHeadRead
+// What stands behind the version byte, if it is whole.
+pub fn read_head(bytes: &[u8], version: InputVersion) -> Option<PackHead>
     ensures { paper_head result ≡ head_after version bytes.now }
 {
     let width = mtu_width(version);
     if bytes.len() < width + train::NUMBER_WIDTH {
-        return PackHeadRead::NoHead;
+        return None;
     }
     let mtu = number_at(bytes, 0, width);
-    let first = number_at(bytes, width, train::NUMBER_WIDTH);
-    PackHeadRead::Head(PackHead {
-        mtu: mtu,
-        first: first as u16,
-    })
+    let first = number_at(bytes, width, train::NUMBER_WIDTH) as u16;
+    Some(PackHead { mtu, first })
 }
 
-// The length of the next unit, or what there is of it.
-pub fn read_unit_length(bytes: &[u8]) -> UnitLength
+// The length of the next unit, if there is a unit; a cut field or a unit over the store counts as cut.
+pub fn read_unit_length(bytes: &[u8]) -> Result<Option<usize>, Cut>
     ensures { paper_length result ≡ length_in bytes.now }
 {
-    if bytes.len() == 0 {
-        return UnitLength::End;
+    if bytes.is_empty() {
+        return Ok(None);
     }
     if bytes.len() < UNIT_WIDTH {
-        return UnitLength::Cut;
+        return Err(Cut);
     }
     let stated = number_at(bytes, 0, UNIT_WIDTH);
     if crate::UNIT_STORE < stated {
-        return UnitLength::Cut;
+        return Err(Cut);
     }
-    UnitLength::Stated(stated)
+    Ok(Some(stated))
 }

@@ -8,15 +8,14 @@ mod unit;
 ghost use Rattle.std.specs.Prelude.{◌≡◌, ℕ, ◌<◌, ◌≤◌, List, [], length};
 ghost use Rattle.base.specs.Lists.{front};
 ghost use Rattle.payloader.specs.Payload.{payloads_of};
-ghost use Rattle.turns.specs.Text.{line_bytes};
 ghost use Rattle.turns.specs.Orders.{arrival, says};
 ghost use Rattle.packing.specs.Pack.{unit_store, version_in, head_after, length_in};
 ghost use Rattle.packing.specs.Steps.{obu_list_numbers, plan_list_numbers, record_room, awaits, next, starts_with, version_told, head_told, length_told, unit_told, step_in, packet_told, told, ReadyAt, LentPackets, Gives, Lent};
 
-use input::{InputVersion, PackHeadRead, UnitLength, VersionRead};
-use turns::{Came, Order, Subject, Word};
+use input::{Cut, InputVersion};
+use turns::{Came, Failure, LINE_BYTES, Subject, Word};
 pub use unit::Progress;
-use unit::UnitAnswer;
+use unit::UnitFault;
 
 // The bytes of a unit, and of the longest payload that there is room for (L12, L14).
 pub const UNIT_STORE: usize = turns::UNIT_STORE;
@@ -52,22 +51,13 @@ pub struct Place {
 }
 
 // What the program does now, and where it then stands.
-#[derive(Clone, Copy)]
-pub struct Turn {
-    pub place: Place,
-    pub order: Order,
-}
+pub type Turn = turns::Turn<Place>;
 
 // The same unit, with this to wait for.
 fn awaiting(place: Place, wait: Wait) -> Place
     ensures { result ≡ awaits place wait }
 {
-    Place {
-        wait: wait,
-        count: place.count,
-        mtu: place.mtu,
-        number: place.number,
-    }
+    Place { wait, ..place }
 }
 
 // The next unit.
@@ -77,8 +67,7 @@ fn following(place: Place) -> Place
     Place {
         wait: Wait::Length,
         count: turns::next_count(place.count),
-        mtu: place.mtu,
-        number: place.number,
+        ..place
     }
 }
 
@@ -98,8 +87,7 @@ pub fn start() -> Turn
 }
 
 // A line is said, and the run is over.
-fn say(place: Place, subject: Subject, word: Word, line: &mut [u8]) -> Turn
-    requires { length line.old ≡ line_bytes }
+fn say(place: Place, subject: Subject, word: Word, line: &mut [u8; LINE_BYTES]) -> Turn
     ensures { Gives (says (awaits place Wait.Nothing) subject word 0) result line.old line.new }
 {
     let last = awaiting(place, Wait::Nothing);
@@ -110,19 +98,15 @@ fn say(place: Place, subject: Subject, word: Word, line: &mut [u8]) -> Turn
 }
 
 // After the version byte, if there was one: the rest of the head is read.
-fn version_step(place: Place, got: &[u8], line: &mut [u8]) -> Turn
-    requires { length line.old ≡ line_bytes }
+fn version_step(place: Place, got: &[u8], line: &mut [u8; LINE_BYTES]) -> Turn
     ensures { Gives (version_told place (version_in got.now)) result line.old line.new }
 {
     match input::read_version(got) {
-        VersionRead::Other => say(place, Subject::Input, Word::NoHead, line),
-        VersionRead::Known(version) => {
-            let width = input::mtu_width(version);
-            Turn {
-                place: awaiting(place, Wait::Head(version)),
-                order: turns::ask(0, width + train::NUMBER_WIDTH),
-            }
-        }
+        None => say(place, Subject::Input, Word::NoHead, line),
+        Some(version) => Turn {
+            place: awaiting(place, Wait::Head(version)),
+            order: turns::ask(0, input::mtu_width(version) + train::NUMBER_WIDTH),
+        },
     }
 }
 
@@ -131,46 +115,42 @@ fn head_step(
     place: Place,
     version: InputVersion,
     got: &[u8],
-    written: &mut [u8],
-    line: &mut [u8],
+    written: &mut [u8; RECORD_BYTES],
+    line: &mut [u8; LINE_BYTES],
 ) -> Turn
-    requires { (length written.old ≡ record_room) × (length line.old ≡ line_bytes) }
     ensures { Gives (head_told place (head_after version got.now)) result line.old line.new
         × (written.new ≡ front (head_told place (head_after version got.now)).written written.old) }
 {
-    match input::read_head(got, version) {
-        PackHeadRead::NoHead => say(place, Subject::Input, Word::NoHead, line),
-        PackHeadRead::Head(head) => {
-            let train_head = train::head_for(head.mtu);
-            written[0] = train_head.version;
-            Turn {
-                place: Place {
-                    wait: Wait::Length,
-                    count: place.count,
-                    mtu: head.mtu,
-                    number: head.first,
-                },
-                order: turns::ask(1, input::UNIT_WIDTH),
-            }
-        }
+    let Some(head) = input::read_head(got, version) else {
+        return say(place, Subject::Input, Word::NoHead, line);
+    };
+    let train_head = train::head_for(head.mtu);
+    written[0] = train_head.version;
+    Turn {
+        place: Place {
+            wait: Wait::Length,
+            mtu: head.mtu,
+            number: head.first,
+            ..place
+        },
+        order: turns::ask(1, input::UNIT_WIDTH),
     }
 }
 
 // After a unit's length, or what there was of it.
-fn length_step(place: Place, got: &[u8], line: &mut [u8]) -> Turn
-    requires { length line.old ≡ line_bytes }
+fn length_step(place: Place, got: &[u8], line: &mut [u8; LINE_BYTES]) -> Turn
     ensures { Gives (length_told place (length_in got.now)) result line.old line.new }
 {
     match input::read_unit_length(got) {
-        UnitLength::End => Turn {
+        Ok(None) => Turn {
             place: awaiting(place, Wait::Nothing),
             order: turns::over(),
         },
-        UnitLength::Cut => say(place, Subject::Unit(place.count), Word::Cut, line),
-        UnitLength::Stated(stated) => Turn {
+        Ok(Some(stated)) => Turn {
             place: awaiting(place, Wait::Unit(stated)),
             order: turns::ask(0, stated),
         },
+        Err(Cut) => say(place, Subject::Unit(place.count), Word::Cut, line),
     }
 }
 
@@ -179,21 +159,21 @@ fn unit_step(
     place: Place,
     stated: usize,
     got: &[u8],
-    obus: &mut [u32],
-    plan: &mut [u32],
-    line: &mut [u8],
+    obus: &mut [u32; OBU_LIST_NUMBERS],
+    plan: &mut [u32; PLAN_LIST_NUMBERS],
+    line: &mut [u8; LINE_BYTES],
 ) -> Turn
-    requires { (stated ≤ unit_store) × (length obus.old ≡ obu_list_numbers) × (length plan.old ≡ plan_list_numbers) × (length line.old ≡ line_bytes) }
+    requires { stated ≤ unit_store }
     ensures { Gives (unit_told place stated (step_in place.mtu stated got.now)) result line.old line.new
         × ReadyAt result.place got.now obus.new plan.new }
 {
     match unit::pack_unit(place.mtu, stated, got, obus, plan) {
-        UnitAnswer::Cut => say(place, Subject::Unit(place.count), Word::Cut, line),
-        UnitAnswer::Refused(refusal) => {
+        Err(UnitFault::Cut) => say(place, Subject::Unit(place.count), Word::Cut, line),
+        Err(UnitFault::Refused(refusal)) => {
             let word = Word::Refused(base::number(refusal));
             say(place, Subject::Unit(place.count), word, line)
         }
-        UnitAnswer::Packed(planned) => {
+        Ok(planned) => {
             let first = Progress {
                 unit: stated,
                 obus: planned.obus,
@@ -215,7 +195,7 @@ fn record_turn(
     unit: &[u8],
     obus: &[u32],
     plan: &[u32],
-    written: &mut [u8],
+    written: &mut [u8; RECORD_BYTES],
 ) -> Turn
     requires lent_packets { LentPackets place.mtu progress unit.now obus.now plan.now written.old }
     requires packet_lt_packets { progress.packet < progress.packets }
@@ -238,17 +218,14 @@ fn record_turn(
         written,
     );
     let after = Progress {
-        unit: progress.unit,
-        obus: progress.obus,
-        packets: progress.packets,
         packet: k + 1,
+        ..progress
     };
     Turn {
         place: Place {
             wait: Wait::Packets(after),
-            count: place.count,
-            mtu: place.mtu,
             number: std::num::wrapping_add_u16(place.number, 1),
+            ..place
         },
         order: turns::ask(end, 0),
     }
@@ -261,7 +238,7 @@ fn packet_step(
     unit: &[u8],
     obus: &[u32],
     plan: &[u32],
-    written: &mut [u8],
+    written: &mut [u8; RECORD_BYTES],
 ) -> Turn
     requires { LentPackets place.mtu progress unit.now obus.now plan.now written.old }
     ensures { ((line : List ℕ) → Gives (packet_told place progress (payloads_of place.mtu unit.now)) result line line)
@@ -284,10 +261,10 @@ pub fn step(
     place: Place,
     came: Came,
     input: &[u8],
-    obus: &mut [u32],
-    plan: &mut [u32],
-    written: &mut [u8],
-    line: &mut [u8],
+    obus: &mut [u32; OBU_LIST_NUMBERS],
+    plan: &mut [u32; PLAN_LIST_NUMBERS],
+    written: &mut [u8; RECORD_BYTES],
+    line: &mut [u8; LINE_BYTES],
 ) -> Turn
     requires { Lent place came input.now obus.old plan.old written.old line.old }
     ensures { Gives (told place (arrival came input.now) input.now) result line.old line.new
@@ -295,27 +272,26 @@ pub fn step(
         × ReadyAt result.place input.now obus.new plan.new }
 {
     let wait = place.wait;
-    let count = place.count;
     match came {
-        Came::ReadFailed => {
-            let about = subjects::read_subject(wait, count);
+        Err(Failure::Read) => {
+            let about = subjects::read_subject(wait, place.count);
             say(place, about, Word::ReadFailed, line)
         }
-        Came::WriteFailed => {
-            let about = subjects::written_subject(wait, count);
+        Err(Failure::Write) => {
+            let about = subjects::written_subject(wait, place.count);
             say(place, about, Word::WriteFailed, line)
         }
-        Came::Read(n) => match wait {
+        Ok(n) => match wait {
             Wait::Version => version_step(place, &input[..n], line),
             Wait::Head(version) => head_step(place, version, &input[..n], written, line),
             Wait::Length => length_step(place, &input[..n], line),
             Wait::Unit(stated) => unit_step(place, stated, &input[..n], obus, plan, line),
             Wait::Packets(progress) => {
-                let unit = progress.unit;
-                packet_step(place, progress, &input[..unit], obus, plan, written)
+                let unit = &input[..progress.unit];
+                packet_step(place, progress, unit, obus, plan, written)
             }
             Wait::Nothing => Turn {
-                place: place,
+                place,
                 order: turns::over(),
             },
         },

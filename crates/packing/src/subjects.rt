@@ -10,12 +10,8 @@ pub fn read_subject(wait: Wait, k: u64) -> Subject
     ensures { result ≡ read_of wait k }
 {
     match wait {
-        Wait::Version => Subject::Input,
-        Wait::Head(_) => Subject::Input,
-        Wait::Length => Subject::Unit(k),
-        Wait::Unit(_) => Subject::Unit(k),
-        Wait::Packets(_) => Subject::Unit(k),
-        Wait::Nothing => Subject::Unit(k),
+        Wait::Version | Wait::Head(_) => Subject::Input,
+        _ => Subject::Unit(k),
     }
 }
 
@@ -24,11 +20,7 @@ pub fn written_subject(wait: Wait, k: u64) -> Subject
     ensures { result ≡ written_of wait k }
 {
     match wait {
-        Wait::Version => Subject::Train,
-        Wait::Head(_) => Subject::Train,
-        Wait::Length => Subject::Train,
-        Wait::Unit(_) => Subject::Unit(k),
-        Wait::Packets(_) => Subject::Unit(k),
-        Wait::Nothing => Subject::Unit(k),
+        Wait::Version | Wait::Head(_) | Wait::Length => Subject::Train,
+        _ => Subject::Unit(k),
     }
 }

@@ -1,17 +1,17 @@
 // One unit planned, and the record of one of its packets at a time (G3, G4).
-ghost use Rattle.std.specs.Prelude.{◌≡◌, ◌/◌, ◌≤◌, length, take};
+ghost use Rattle.std.specs.Prelude.{◌≡◌, ◌/◌, ◌≤◌, length, take, IfOk};
 ghost use Rattle.base.specs.Lists.{Put};
 ghost use Rattle.obu.specs.Records.{obu_numbers};
 ghost use Rattle.packetizer.specs.Records.{plan_numbers};
-ghost use Rattle.packetizer.specs.declared.Planned.{Planned};
 ghost use Rattle.payloader.specs.Payload.{payload_at};
 ghost use Rattle.train.specs.Train.{record_bytes};
 ghost use Rattle.packing.specs.Pack.{unit_store, answer_in, unit_in};
 ghost use Rattle.packing.specs.Paper.{paper_unit};
 ghost use Rattle.packing.specs.Steps.{begins, Ready, Recordable};
+ghost use Rattle.packing.specs.declared.unit.UnitFault.TheVariants as fault;
 
-use base::Refusal;
-use packetizer::{PlanAnswer, Planned};
+use base::{Refusal, RefusedAt};
+use packetizer::Planned;
 
 // The packets of a unit that is packed: how many bytes it has, how many OBUs and packets, and which packet is the next to be written.
 #[derive(Clone, Copy)]
@@ -22,12 +22,20 @@ pub struct Progress {
     pub packet: usize,
 }
 
-// A unit is packed, so many OBUs into so many packets; or refused, or cut.
+// Why a unit is not packed.
 #[derive(Clone, Copy)]
-pub enum UnitAnswer {
-    Packed(Planned),
+pub enum UnitFault {
     Refused(Refusal),
     Cut,
+}
+
+// The place that a refusal carries is not said.
+impl From<RefusedAt> for UnitFault {
+    ghost from_gives = { λ refused it. it ≡ fault.Refused refused.refusal };
+
+    fn from(refused: RefusedAt) -> UnitFault {
+        UnitFault::Refused(refused.refusal)
+    }
 }
 
 // Writes the record of packet k, with a length field of this width: what stands before the payload, and the payload right behind it.
@@ -61,16 +69,13 @@ pub fn pack_unit(
     bytes: &[u8],
     obus: &mut [u32],
     plan: &mut [u32],
-) -> UnitAnswer
+) -> Result<Planned, UnitFault>
     requires { stated ≤ unit_store }
-    ensures { (paper_unit result ≡ unit_in (answer_in (length obus.old / obu_numbers) (length plan.old / plan_numbers)) mtu stated bytes.now)
-        × ((p : Planned) → result ≡ UnitAnswer.Packed p → Ready mtu (begins stated p) (take stated bytes.now) obus.new plan.new) }
+    ensures answer { paper_unit result ≡ unit_in (answer_in (length obus.old / obu_numbers) (length plan.old / plan_numbers)) mtu stated bytes.now }
+    ensures ready { IfOk result (λ p. Ready mtu (begins stated p) (take stated bytes.now) obus.new plan.new) }
 {
     if bytes.len() < stated {
-        return UnitAnswer::Cut;
+        return Err(UnitFault::Cut);
     }
-    match packetizer::plan_unit(mtu, &bytes[..stated], obus, plan) {
-        PlanAnswer::Refused { refusal, at: _ } => UnitAnswer::Refused(refusal),
-        PlanAnswer::Planned(planned) => UnitAnswer::Packed(planned),
-    }
+    Ok(packetizer::plan_unit(mtu, &bytes[..stated], obus, plan)?)
 }

@@ -19,4 +19,4 @@ unfolding line_text
 returns c = let a = c.args in
     let all : Put a.line.now _ 0 _ (line_text a.subject a.word) =
     put_then c.put_subject-colon.ensures (put_then c.put_text-at.ensures (put_then c.put_word-end.ensures c.put_text.ensures)) in
-    put_front all (omega (arith, all.cursor, line_short a.subject a.word, c.requires))
+    put_front all (omega (arith, all.cursor, line_short a.subject a.word))

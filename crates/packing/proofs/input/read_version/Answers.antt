@@ -1,15 +1,20 @@
-use Rattle.packing.specs.declared.input.InputVersion.TheVariants as version
-use Rattle.packing.proofs.Reading.{version_none, version_known, version_other}
+use Rattle.std.proofs.Common.{rules, ap, ◌∙◌, sym, true-eqb, ne_eqb}
+use Rattle.std.specs.Option.{option_copied}
+use Rattle.packing.specs.Pack.{version_in, version_with}
+use Rattle.packing.proofs.Reading.{version_at, version_first}
 use Rattle.packing.proofs.input.read_version.Goals as goal
 
-pub returns-then-bytes-eq0 : goal.returns-then-bytes-eq0
-returns-then-bytes-eq0 c = version_none c.args.bytes.now c.if-bytes-eq0.true
+pub returns-in_err-first : goal.returns-in_err-first
+returns-in_err-first c = rw c.from_residual.ensures (rw c.in_err-first.was at (version_first c.args.bytes.now c.first.ensures.value))
 
-pub returns-then-version-eq-SHORT_VERSION : goal.returns-then-version-eq-SHORT_VERSION
-returns-then-version-eq-SHORT_VERSION c = version_known c.args.bytes.now c.if-bytes-eq0.false version.Short c.if-version-eq-SHORT_VERSION.true
+pub returns-in-1 : goal.returns-in-1
+unfolding version_with
+returns-in-1 c = rw (c.in_ok-first.was, c.in-1.is) at (version_first c.args.bytes.now c.first.ensures.value)
 
-pub returns-then-version-eq-LONG_VERSION : goal.returns-then-version-eq-LONG_VERSION
-returns-then-version-eq-LONG_VERSION c = version_known c.args.bytes.now c.if-bytes-eq0.false version.Long c.if-version-eq-LONG_VERSION.true
+pub returns-in-2 : goal.returns-in-2
+unfolding version_with
+returns-in-2 c = rw (c.in_ok-first.was, c.in-2.is) at (version_first c.args.bytes.now c.first.ensures.value)
 
-pub returns : goal.returns
-returns c = version_other c.args.bytes.now c.if-bytes-eq0.false c.if-version-eq-SHORT_VERSION.false c.if-version-eq-LONG_VERSION.false
+pub returns-in_default : goal.returns-in_default
+unfolding version_with
+returns-in_default c = let e = rw (c.in_ok-first.was) at (version_first c.args.bytes.now c.first.ensures.value) in let f = c.in_default in search rules
