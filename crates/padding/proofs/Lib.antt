@@ -1,4 +1,3 @@
 -- What the proofs of the functions, and of callers, cite.
 pub mod Rows
-pub mod Printing
 pub mod Runs

@@ -2,13 +2,13 @@
 use Rattle.std.specs.Prelude.{◌≡◌, ℕ, ◌≤◌, List, [], length, take}
 use Rattle.base.specs.Lists.{front}
 use Rattle.turns.specs.Orders.{Told, Arrival}
+use Rattle.turns.specs.declared.Turn.{Turn}
 use Rattle.packing.specs.Steps as packing
 use Rattle.packing.specs.Steps.{record_room, awaits}
 use Rattle.packing.specs.declared.unit.Progress.{Progress}
 use Rattle.packing.specs.declared.Wait.{Wait}
 use Rattle.packing.specs.declared.Wait.TheVariants as wait
 use Rattle.packing.specs.declared.Place.{Place}
-use Rattle.packing.specs.declared.Turn.{Turn}
 use Rattle.padding.specs.Padded.{padded_in, line_of}
 
 -- all packets of a unit count as written
@@ -51,7 +51,7 @@ abbrev pub out_after : Place → Arrival → List ℕ → List ℕ → List ℕ
 out_after p a input out = front (told p a input).written (front (packing.told p a input).written out)
 
 -- in place of a turn of `pack`, with the bytes to be written first in the output
-pub record Instead (before turn : Turn) (input out out' : List ℕ) : Type 0 where
+pub record Instead (before turn : Turn Place) (input out out' : List ℕ) : Type 0 where
   pub place_is : turn.place ≡ place_for before.place
   pub order_is : turn.order ≡ record { more = before.order.more; write = length (written before.place input); say = before.order.say; read = before.order.read }
   pub stored : out' ≡ front (written before.place input) out

@@ -12,13 +12,11 @@ ghost use Rattle.packing.specs.Steps.{record_room, awaits, ReadyAt, Gives, Lent}
 ghost use Rattle.padding.specs.Padded.{padded_in, line_of};
 ghost use Rattle.padding.specs.Steps.{passed, told, out_after, Instead};
 
-use obu::ObuList;
-use packing::{Place, Progress, Turn, Wait};
-use turns::{Came, Order};
+use packing::{OBU_LIST_NUMBERS, PLAN_LIST_NUMBERS, Place, Progress, RECORD_BYTES, Turn, Wait};
+use turns::{Came, LINE_BYTES, Order};
 
 // The line of unit k at the front of the bytes lent, and how many it has.
-fn put_line(k: u64, padded: usize, written: &mut [u8]) -> usize
-    requires { length written.old ≡ record_room }
+fn put_line(k: u64, padded: usize, written: &mut [u8; RECORD_BYTES]) -> usize
     ensures { (result ≡ length (line_of k padded)) × (result ≤ record_room) × (written.new ≡ front (line_of k padded) written.old) }
 {
     let blank = turns::put_decimal(k, written, 0);
@@ -31,11 +29,10 @@ fn padded_in(unit: &[u8], obus: &[u32]) -> usize
     requires { given (listed_of unit.now) ≡ listed (length obus.now / obu_numbers) unit.now }
     ensures { result ≡ padded_in unit.now }
 {
-    match obu::count_obus(unit, obus.len() / obu::OBU_NUMBERS) {
-        ObuList::Listed(listed) => listed.padded,
-        // never, since it was listed
-        ObuList::Refused { refusal: _, at: _ } => 0,
-    }
+    let Ok(listed) = obu::count_obus(unit, obus.len() / obu::OBU_NUMBERS) else {
+        unreachable!();
+    };
+    listed.padded
 }
 
 // All packets of a unit count as written.
@@ -43,10 +40,8 @@ fn passing(progress: Progress) -> Progress
     ensures { result ≡ passed progress }
 {
     Progress {
-        unit: progress.unit,
-        obus: progress.obus,
-        packets: progress.packets,
         packet: progress.packets,
+        ..progress
     }
 }
 
@@ -55,34 +50,24 @@ fn turned(turn: Turn, wait: Wait, write: usize) -> Turn
     ensures { (result.place ≡ awaits turn.place wait)
         × (result.order ≡ record { more = turn.order.more; write = write; say = turn.order.say; read = turn.order.read }) }
 {
-    let place = turn.place;
-    let order = turn.order;
     Turn {
-        place: Place {
-            wait: wait,
-            count: place.count,
-            mtu: place.mtu,
-            number: place.number,
-        },
+        place: Place { wait, ..turn.place },
         order: Order {
-            more: order.more,
-            write: write,
-            say: order.say,
-            read: order.read,
+            write,
+            ..turn.order
         },
     }
 }
 
 // In place of a turn of `pack`: where the packets of a unit are next its line is written, else nothing.
-fn instead(turn: Turn, input: &[u8], obus: &[u32], written: &mut [u8]) -> Turn
-    requires { ((plan : List ℕ) × ReadyAt turn.place input.now obus.now plan) × (length written.old ≡ record_room) }
+fn instead(turn: Turn, input: &[u8], obus: &[u32], written: &mut [u8; RECORD_BYTES]) -> Turn
+    requires { (plan : List ℕ) × ReadyAt turn.place input.now obus.now plan }
     ensures { Instead turn result input.now written.old written.new }
 {
     let place = turn.place;
     let wait = place.wait;
     if let Wait::Packets(progress) = wait {
-        let unit = progress.unit;
-        let padded = padded_in(&input[..unit], obus);
+        let padded = padded_in(&input[..progress.unit], obus);
         let end = put_line(place.count, padded, written);
         return turned(turn, Wait::Packets(passing(progress)), end);
     }
@@ -95,10 +80,10 @@ pub fn step(
     place: Place,
     came: Came,
     input: &[u8],
-    obus: &mut [u32],
-    plan: &mut [u32],
-    written: &mut [u8],
-    line: &mut [u8],
+    obus: &mut [u32; OBU_LIST_NUMBERS],
+    plan: &mut [u32; PLAN_LIST_NUMBERS],
+    written: &mut [u8; RECORD_BYTES],
+    line: &mut [u8; LINE_BYTES],
 ) -> Turn
     requires { Lent place came input.now obus.old plan.old written.old line.old }
     ensures { Gives (told place (arrival came input.now) input.now) result line.old line.new
