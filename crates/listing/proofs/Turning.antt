@@ -4,6 +4,7 @@ use Prim.Native.Nat.{ℕ, ◌≤◌}
 use native.Mathlib.Omega.{arith}
 use mathlib.Core.Bool.{true, false}
 use mathlib.Core.List.{List, []}
+use Rattle.std.specs.Prelude.{Ok}
 use lib.ListN.{length, take}
 use lib.Seq.{length-take-le}
 use lib.Dec.{ltb}
@@ -12,16 +13,14 @@ use Rattle.base.specs.Lists.{front, Put}
 use Rattle.base.proofs.Lists.{put_front}
 use Rattle.base.proofs.Tests.{by_cond}
 use Rattle.turns.specs.Text.{line_bytes}
-use Rattle.turns.specs.Orders.{Told, ends, asks, Turned, arrival}
-use Rattle.turns.specs.declared.Came.{Came}
-use Rattle.turns.specs.declared.Came.TheVariants as came
+use Rattle.turns.specs.Orders.{Told, ends, asks, Turned, Came, arrival}
+use Rattle.turns.specs.declared.Turn.{Turn}
 use Rattle.turns.proofs.Orders.{came_most}
 use Rattle.turns.proofs.Turning.{ended, asked}
 use Rattle.listing.specs.Input.{unit_store, Head, bad, states}
 use Rattle.listing.specs.Steps.{head_told, unit_told, row_told, told_by, told, unit_by, unit_next, Filled, ReadyBy, Ready, Lent, Printed, Writes}
 use Rattle.listing.specs.declared.Wait.{Wait}
 use Rattle.listing.specs.declared.Place.{Place}
-use Rattle.listing.specs.declared.Turn.{Turn}
 
 -- a text put from the front on; and none
 pub printed : {l l' : List ℕ} {n : ℕ} {text : List ℕ} → Put l l' 0 n text → length l ≡ line_bytes → n ≤ line_bytes → Printed text n l l'
@@ -30,7 +29,7 @@ printed p e h = let q = put_front p (omega arith) in record { count = q.0; store
 pub no_text : {l : List ℕ} → Printed [] 0 l l
 no_text = record { count = refl; stored = refl; fits = omega arith }
 
-module _ {t : Told Place} {r : Turn} {out out' : List ℕ} where
+module _ {t : Told Place} {r : Turn Place} {out out' : List ℕ} where
   -- bytes are written, or none, and bytes are asked for, or none
   pub wrote : (p : Place) (w : List ℕ) (n k : ℕ) → t ≡ asks p w k → r.place ≡ p → r.order ≡ record { more = true; write = n; say = 0; read = k }
       → Printed w n out out' → k ≤ unit_store → Writes t r out out'
@@ -49,14 +48,14 @@ module _ {t : Told Place} {r : Turn} {out out' : List ℕ} where
   ready_told unit obus plan w h = subst (λ (p : Place). Ready p unit obus plan) (sym (w.turned []).0.place_is) h
 
 -- the run is over
-pub wrote_none : {t : Told Place} {r : Turn} {out : List ℕ} (p : Place) → t ≡ ends p → r.place ≡ p
+pub wrote_none : {t : Told Place} {r : Turn Place} {out : List ℕ} (p : Place) → t ≡ ends p → r.place ≡ p
     → r.order ≡ record { more = false; write = 0; say = 0; read = 0 } → Writes t r out out
 wrote_none {t} {r} {out} p e f g =
     record { turned = λ line. ended p e f g; out_is = ap (λ (x : Told Place). front x.written out) (sym e) }
 
 -- ---- what came, and what is ready for it
 
-module _ {p : Place} {c : Came} {input unit obus plan out line : List ℕ} (lent : Lent p c input unit obus plan out line) {n : ℕ} (e : c ≡ came.Read n) where
+module _ {p : Place} {c : Came} {input unit obus plan out line : List ℕ} (lent : Lent p c input unit obus plan out line) {n : ℕ} (e : c ≡ Ok n) where
   most : n ≤ unit_store
   most = came_most c n unit_store e lent.came_within
 
@@ -90,7 +89,7 @@ module _ (unit obus plan : List ℕ) (p : Place) where
 
 -- the whole step, where n bytes were read and this was waited for
 module _ (p : Place) (c : Came) (n : ℕ) (w : Wait) (input unit line obus' plan' : List ℕ) where
-  pub stepped : {r : Turn} {out unit' out' : List ℕ} → c ≡ came.Read n → p.wait ≡ w
+  pub stepped : {r : Turn Place} {out unit' out' : List ℕ} → c ≡ Ok n → p.wait ≡ w
       → Writes (told_by w p (take n input) unit) r out out' → unit' ≡ unit_by w p (take n input) unit → Ready r.place unit' obus' plan'
       → Turned (told p (arrival c input) unit) r.place r.order line line unit_store line_bytes
       × (out' ≡ front (told p (arrival c input) unit).written out)

@@ -1,8 +1,8 @@
 -- What the answer of the code stands for.
+use Rattle.std.specs.Prelude.{Option, Some, None}
 use Rattle.listing.specs.Input as input
-use Rattle.listing.specs.declared.HeadRead.{HeadRead}
-use Rattle.listing.specs.declared.HeadRead.TheVariants as head
+use Rattle.listing.specs.declared.Stated.{Stated}
 
-abbrev pub paper_head : HeadRead → input.Head
-paper_head head.Bad = input.bad
-paper_head (head.Head s) = input.states s
+abbrev pub paper_head : Option Stated → input.Head
+paper_head None = input.bad
+paper_head (Some s) = input.states s

@@ -6,8 +6,8 @@ use Rattle.obu.specs.Records.{obu_numbers, flat}
 use Rattle.packetizer.specs.Call.{unit_plan}
 use Rattle.packetizer.specs.Records.{plan_numbers, flat_plan}
 use Rattle.turns.specs.Text.{line_bytes}
-use Rattle.turns.specs.Orders.{Told, ends, asks, says, Within, Turned, Arrival, bytes, read_failed, write_failed, CameWithin}
-use Rattle.turns.specs.declared.Came.{Came}
+use Rattle.turns.specs.Orders.{Told, ends, asks, says, Within, Turned, Arrival, bytes, read_failed, write_failed, Came, CameWithin}
+use Rattle.turns.specs.declared.Turn.{Turn}
 use Rattle.turns.specs.declared.Subject.{Subject}
 use Rattle.turns.specs.declared.Subject.TheVariants as subject
 use Rattle.turns.specs.declared.Word.{Word}
@@ -19,7 +19,6 @@ use Rattle.listing.specs.Listing.{Listing, refused_by, lists, unit_listing, bad_
 use Rattle.listing.specs.declared.Wait.{Wait}
 use Rattle.listing.specs.declared.Wait.TheVariants as wait
 use Rattle.listing.specs.declared.Place.{Place}
-use Rattle.listing.specs.declared.Turn.{Turn}
 
 -- the same numbers, with this to wait for
 abbrev pub awaits : Place → Wait → Place
@@ -147,11 +146,11 @@ pub record Printed (text : List ℕ) (n : ℕ) (out out' : List ℕ) : Type 0 wh
   pub fits : n ≤ line_bytes
 
 -- a turn that leaves the line as it is, with the bytes to be written first in the output
-pub record Writes (t : Told Place) (r : Turn) (out out' : List ℕ) : Type 0 where
+pub record Writes (t : Told Place) (r : Turn Place) (out out' : List ℕ) : Type 0 where
   pub turned : (line : List ℕ) → Turned t r.place r.order line line unit_store line_bytes
   pub out_is : out' ≡ front t.written out
 
 -- from here the program can go on: its order can be carried out, and the stores are ready for the next step
-pub record Goes (turn : Turn) (unit obus plan : List ℕ) : Type 0 where
+pub record Goes (turn : Turn Place) (unit obus plan : List ℕ) : Type 0 where
   pub within : Within turn.order unit_store line_bytes
   pub ready : Ready turn.place unit obus plan

@@ -12,8 +12,8 @@ ghost use Rattle.listing.specs.Input.{unit_store, obu_list_numbers, plan_list_nu
 ghost use Rattle.listing.specs.Listing.{bad_text};
 ghost use Rattle.listing.specs.Steps.{starts_with, awaits, prints, head_told, unit_told, unit_after, further_told, row_told, read_of, failed, told, unit_next, Filled, Ready, Lent, Writes};
 
-use packetizer::PlanAnswer;
-use turns::{Came, Order, Subject, Word};
+use packetizer::Planned;
+use turns::{Came, Failure, LINE_BYTES, Subject, Word};
 
 // The bytes of a head, of the unit store, and the numbers of a list of 512 records (L12, L13).
 const HEAD_BYTES: usize = 7;
@@ -29,12 +29,6 @@ pub const PLAN_LIST_NUMBERS: usize = turns::LIST_RECORDS * packetizer::PLAN_NUMB
 struct Stated {
     pub mtu: usize,
     pub length: usize,
-}
-
-#[derive(Clone, Copy)]
-enum HeadRead {
-    Head(Stated),
-    Bad,
 }
 
 // The numbers of a line, in its order.
@@ -71,23 +65,13 @@ pub struct Place {
 }
 
 // What the program does now, and where it then stands.
-#[derive(Clone, Copy)]
-pub struct Turn {
-    pub place: Place,
-    pub order: Order,
-}
+pub type Turn = turns::Turn<Place>;
 
 // The same numbers, with this to wait for.
 fn awaiting(place: Place, wait: Wait) -> Place
     ensures { result ≡ awaits place wait }
 {
-    Place {
-        wait: wait,
-        mtu: place.mtu,
-        length: place.length,
-        obus: place.obus,
-        packets: place.packets,
-    }
+    Place { wait, ..place }
 }
 
 // What a run begins with: the head is read.
@@ -117,8 +101,7 @@ fn print(place: Place, bytes: usize) -> Turn
 }
 
 // `bad input` is written, and the run is over.
-fn bad_input(place: Place, out: &mut [u8]) -> Turn
-    requires { length out.old ≡ line_bytes }
+fn bad_input(place: Place, out: &mut [u8; LINE_BYTES]) -> Turn
     ensures { Writes (prints place bad_text) result out.old out.new }
 {
     let end = base::put_text(b"bad input\n", out, 0);
@@ -126,39 +109,38 @@ fn bad_input(place: Place, out: &mut [u8]) -> Turn
 }
 
 // After the head, or what there was of it.
-fn head_step(place: Place, got: &[u8], out: &mut [u8]) -> Turn
-    requires { length out.old ≡ line_bytes }
+fn head_step(place: Place, got: &[u8], out: &mut [u8; LINE_BYTES]) -> Turn
     ensures { Writes (head_told place (head_of got.now)) result out.old out.new }
 {
-    match head::read_head(got) {
-        HeadRead::Bad => bad_input(place, out),
-        HeadRead::Head(stated) => {
-            let length = stated.length;
-            Turn {
-                place: Place {
-                    wait: Wait::Unit,
-                    mtu: stated.mtu,
-                    length: length,
-                    obus: place.obus,
-                    packets: place.packets,
-                },
-                order: turns::ask(0, length),
-            }
-        }
+    let Some(stated) = head::read_head(got) else {
+        return bad_input(place, out);
+    };
+    Turn {
+        place: Place {
+            wait: Wait::Unit,
+            mtu: stated.mtu,
+            length: stated.length,
+            ..place
+        },
+        order: turns::ask(0, stated.length),
     }
 }
 
 // After the unit, or what there was of it: it is kept in the unit store.
-fn unit_step(place: Place, got: &[u8], unit: &mut [u8], out: &mut [u8]) -> Turn
-    requires { (length got.now ≤ length unit.old) × (length out.old ≡ line_bytes) }
+fn unit_step(
+    place: Place,
+    got: &[u8],
+    unit: &mut [u8; UNIT_STORE],
+    out: &mut [u8; LINE_BYTES],
+) -> Turn
+    requires { length got.now ≤ unit_store }
     ensures { Writes (unit_told place got.now) result out.old out.new
         × (unit.new ≡ unit_after place got.now unit.old) }
 {
-    let length = place.length;
-    if got.len() < length {
+    if got.len() < place.length {
         return bad_input(place, out);
     }
-    base::copy_bytes(got, 0, length, unit, 0);
+    base::copy_bytes(got, 0, place.length, unit, 0);
     Turn {
         place: awaiting(place, Wait::Further),
         order: turns::ask(0, 1),
@@ -169,36 +151,37 @@ fn unit_step(place: Place, got: &[u8], unit: &mut [u8], out: &mut [u8]) -> Turn
 fn further_step(
     place: Place,
     got: &[u8],
-    unit: &[u8],
-    obus: &mut [u32],
-    plan: &mut [u32],
-    out: &mut [u8],
+    unit: &[u8; UNIT_STORE],
+    obus: &mut [u32; OBU_LIST_NUMBERS],
+    plan: &mut [u32; PLAN_LIST_NUMBERS],
+    out: &mut [u8; LINE_BYTES],
 ) -> Turn
-    requires { (place.length ≤ unit_store) × (length unit.now ≡ unit_store) × (length obus.old ≡ obu_list_numbers) × (length plan.old ≡ plan_list_numbers) × (length out.old ≡ line_bytes) }
+    requires { place.length ≤ unit_store }
     ensures { Writes (further_told place got.now unit.now) result out.old out.new
         × Ready result.place unit.now obus.new plan.new }
 {
     if got.len() > 0 {
         return bad_input(place, out);
     }
-    let length = place.length;
-    match packetizer::plan_unit(place.mtu, &unit[..length], obus, plan) {
-        PlanAnswer::Refused { refusal, at } => {
-            let number = base::number(refusal);
-            let end = text::put_two(b"refused ", number as u64, b" ", at as u64, out);
+    match packetizer::plan_unit(place.mtu, &unit[..place.length], obus, plan) {
+        Err(refused) => {
+            let number = base::number(refused.refusal);
+            let end = text::put_two(b"refused ", number as u64, b" ", refused.at as u64, out);
             print(place, end)
         }
-        PlanAnswer::Planned(planned) => {
-            let count = planned.obus;
-            let packets = planned.packets;
+        Ok(
+            Planned {
+                obus: count,
+                packets,
+            },
+        ) => {
             let end = text::put_two(b"obus ", count as u64, b"\npackets ", packets as u64, out);
             Turn {
                 place: Place {
                     wait: Wait::Row(0),
-                    mtu: place.mtu,
-                    length: length,
                     obus: count,
-                    packets: packets,
+                    packets,
+                    ..place
                 },
                 order: turns::ask(end, 0),
             }
@@ -207,21 +190,26 @@ fn further_step(
 }
 
 // The line of packet k, if there is one, from lists that hold the plan of the unit.
-fn row_step(place: Place, k: usize, unit: &[u8], obus: &[u32], plan: &[u32], out: &mut [u8]) -> Turn
-    requires { Filled place unit.now obus.now plan.now × (length unit.now ≡ unit_store) × (length out.old ≡ line_bytes) }
+fn row_step(
+    place: Place,
+    k: usize,
+    unit: &[u8; UNIT_STORE],
+    obus: &[u32],
+    plan: &[u32],
+    out: &mut [u8; LINE_BYTES],
+) -> Turn
+    requires { Filled place unit.now obus.now plan.now }
     ensures { Writes (row_told place k unit.now) result out.old out.new }
 {
-    let packets = place.packets;
-    if packets <= k {
+    if place.packets <= k {
         return Turn {
             place: awaiting(place, Wait::Nothing),
             order: turns::over(),
         };
     }
-    let length = place.length;
     let listed = place.obus * obu::OBU_NUMBERS;
-    let planned = packets * packetizer::PLAN_NUMBERS;
-    let row = text::row_at(&unit[..length], &obus[..listed], &plan[..planned], k);
+    let planned = place.packets * packetizer::PLAN_NUMBERS;
+    let row = text::row_at(&unit[..place.length], &obus[..listed], &plan[..planned], k);
     let end = text::put_row(row, out);
     Turn {
         place: awaiting(place, Wait::Row(k + 1)),
@@ -235,16 +223,12 @@ fn read_subject(wait: Wait) -> Subject
 {
     match wait {
         Wait::Head => Subject::Input,
-        Wait::Unit => Subject::Unit(0),
-        Wait::Further => Subject::Unit(0),
-        Wait::Row(_) => Subject::Unit(0),
-        Wait::Nothing => Subject::Unit(0),
+        _ => Subject::Unit(0),
     }
 }
 
 // After a read or a write that failed: it is said, and the run is over where it stood.
-fn failed_step(stood: Place, subject: Subject, word: Word, line: &mut [u8]) -> Turn
-    requires { length line.old ≡ line_bytes }
+fn failed_step(stood: Place, subject: Subject, word: Word, line: &mut [u8; LINE_BYTES]) -> Turn
     ensures { Turned (failed stood subject word) result.place result.order line.old line.new unit_store line_bytes }
 {
     Turn {
@@ -260,11 +244,11 @@ pub fn step(
     place: Place,
     came: Came,
     input: &[u8],
-    unit: &mut [u8],
-    obus: &mut [u32],
-    plan: &mut [u32],
-    out: &mut [u8],
-    line: &mut [u8],
+    unit: &mut [u8; UNIT_STORE],
+    obus: &mut [u32; OBU_LIST_NUMBERS],
+    plan: &mut [u32; PLAN_LIST_NUMBERS],
+    out: &mut [u8; LINE_BYTES],
+    line: &mut [u8; LINE_BYTES],
 ) -> Turn
     requires { Lent place came input.now unit.old obus.old plan.old out.old line.old }
     ensures { Turned (told place (arrival came input.now) unit.old) result.place result.order line.old line.new unit_store line_bytes
@@ -274,15 +258,15 @@ pub fn step(
 {
     let wait = place.wait;
     match came {
-        Came::ReadFailed => failed_step(place, read_subject(wait), Word::ReadFailed, line),
-        Came::WriteFailed => failed_step(place, Subject::Unit(0), Word::WriteFailed, line),
-        Came::Read(n) => match wait {
+        Err(Failure::Read) => failed_step(place, read_subject(wait), Word::ReadFailed, line),
+        Err(Failure::Write) => failed_step(place, Subject::Unit(0), Word::WriteFailed, line),
+        Ok(n) => match wait {
             Wait::Head => head_step(place, &input[..n], out),
             Wait::Unit => unit_step(place, &input[..n], unit, out),
             Wait::Further => further_step(place, &input[..n], unit, obus, plan, out),
             Wait::Row(k) => row_step(place, k, unit, obus, plan, out),
             Wait::Nothing => Turn {
-                place: place,
+                place,
                 order: turns::over(),
             },
         },

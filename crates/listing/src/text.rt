@@ -11,6 +11,7 @@ ghost use Rattle.listing.specs.Listing.{two_numbers};
 ghost use Rattle.listing.specs.Steps.{Printed};
 
 use crate::Row;
+use turns::LINE_BYTES;
 
 // The line of packet k.
 // Helper: the plan must have a whole record k, and the header call give a header for it.
@@ -29,7 +30,7 @@ pub fn row_at(unit: &[u8], obus: &[u32], plan: &[u32], k: usize) -> Row
         first_offset: p.first_obu_offset,
         last_size: p.last_obu_size,
         packet_size: p.packet_size,
-        header: header,
+        header,
         start: p.payload_start,
     }
 }
@@ -66,19 +67,15 @@ fn put_columns(numbers: &[u64], out: &mut [u8]) -> usize
     ensures { Put out.old out.new 0 result (flat_map column numbers.now)
         × (result ≤ length numbers.now * (most_digits + 1)) }
 {
-    let mut at: usize = 0;
-    let mut i: usize = 0;
-    while i < numbers.len() {
-        at = put_column(numbers[i], out, at);
-        i += 1;
+    let mut at = 0;
+    for n in numbers {
+        at = put_column(*n, out, at);
     }
     at
 }
 
 // The line of a packet at the front of the bytes lent, and how many it has.
-// Helper: `out` must have exactly LINE_BYTES bytes.
-pub fn put_row(row: Row, out: &mut [u8]) -> usize
-    requires { length out.old ≡ line_bytes }
+pub fn put_row(row: Row, out: &mut [u8; LINE_BYTES]) -> usize
     ensures { Printed (row_text row) result out.old out.new }
 {
     let numbers = [
@@ -96,9 +93,9 @@ pub fn put_row(row: Row, out: &mut [u8]) -> usize
 }
 
 // Two numbers, each behind its few words, at the front of the bytes lent, and how many bytes they take.
-// Helper: `out` must have exactly LINE_BYTES bytes, and the words together at most 100.
-pub fn put_two(first: &[u8], m: u64, second: &[u8], n: u64, out: &mut [u8]) -> usize
-    requires { (length out.old ≡ line_bytes) × (length first.now + length second.now ≤ 100) }
+// Helper: the words must have together at most 100 bytes.
+pub fn put_two(first: &[u8], m: u64, second: &[u8], n: u64, out: &mut [u8; LINE_BYTES]) -> usize
+    requires { length first.now + length second.now ≤ 100 }
     ensures { Printed (two_numbers first.now m second.now n) result out.old out.new }
 {
     let behind = turns::put_labelled(first, m, out, 0);

@@ -1,8 +1,6 @@
-use mathlib.Core.Path.{refl, sym, ap, ◌∙◌}
-use native.Mathlib.Omega.{arith}
-use lib.Seq.{length-take-le}
+use Rattle.std.proofs.Common.{refl, sym, ap, ◌∙◌, arith}
+use Rattle.base.specs.Answers.{paper_at}
 use Rattle.packetizer.specs.Call.{After}
-use Rattle.packetizer.specs.Paper.{paper}
 use Rattle.listing.specs.Steps.{awaits, prints, counted, Writes}
 use Rattle.listing.specs.Listing.{refused_text}
 use Rattle.listing.specs.declared.Wait.TheVariants as wait
@@ -15,19 +13,16 @@ returns-then-got-gt0 c = let a = c.args in
     let w = c.bad_input.ensures in
     (by_case (told_more a.place a.got.now a.unit.now (omega (arith, c.if-got-gt0.true))) w, ready_told a.unit.now a.obus.now a.plan.now w tt)
 
-pub slice_bounds-plan_unit-end : goal.slice_bounds-plan_unit-end
-slice_bounds-plan_unit-end c = sym (length-take-le _ c.args.unit.now (omega (arith, c.requires.0, c.requires.1)))
-
-pub returns-in-Refused : goal.returns-in-Refused
-returns-in-Refused c = let a = c.args in
-    let e = sym (ap paper c.in-Refused.is) ∙ ap (λ (x : After). x.answer) c.plan_unit.ensures in
+pub returns-in-Err : goal.returns-in-Err
+returns-in-Err c = let a = c.args in
+    let e = sym (ap paper_at c.in-Err.is) ∙ ap (λ (x : After). x.answer) c.plan_unit.ensures in
     let w : Writes (prints a.place (refused_text _ _)) _ _ _ = wrote (awaits a.place wait.Nothing) _ _ 0 refl c.print.ensures.0 c.print.ensures.1 (rw c.number-number.ensures at c.put_two-end.ensures) (omega arith) in
-    (by_case (told_refused a.place a.unit.now a.obus.now a.plan.now c.requires.2 c.requires.3 a.got.now (omega (arith, c.if-got-gt0.false)) e) w, ready_told a.unit.now c.plan_unit.new.obus c.plan_unit.new.plan w tt)
+    (by_case (told_refused a.place a.unit.now a.obus.now a.plan.now (omega arith) (omega arith) a.got.now (omega (arith, c.if-got-gt0.false)) e) w, ready_told a.unit.now c.plan_unit.new.obus c.plan_unit.new.plan w tt)
 
-pub returns-in-Planned : goal.returns-in-Planned
-returns-in-Planned c = let a = c.args in
-    let q = c.in-Planned.planned in
-    let e = sym (ap paper c.in-Planned.is) ∙ ap (λ (x : After). x.answer) c.plan_unit.ensures in
-    let w = wrote (counted a.place q.obus q.packets) _ _ 0 (told_counts a.place a.unit.now a.obus.now a.plan.now c.requires.2 c.requires.3 a.got.now (omega (arith, c.if-got-gt0.false)) e) refl c.ask.ensures
-    c.put_two-end-in-Planned.ensures (omega arith) in
-    (w, rw (ap (λ (x : After). x.obus) c.plan_unit.ensures, ap (λ (x : After). x.plan) c.plan_unit.ensures) (planned_filled a.place a.unit.now a.obus.now a.plan.now q e c.requires.0))
+pub returns-in-Ok : goal.returns-in-Ok
+returns-in-Ok c = let a = c.args in
+    let q = c.in-Ok.field-0 in
+    let e = sym (ap paper_at c.in-Ok.is) ∙ ap (λ (x : After). x.answer) c.plan_unit.ensures in
+    let w = wrote (counted a.place q.obus q.packets) _ _ 0 (told_counts a.place a.unit.now a.obus.now a.plan.now (omega arith) (omega arith) a.got.now (omega (arith, c.if-got-gt0.false)) e) refl c.ask.ensures
+    c.put_two-end-in-Ok.ensures (omega arith) in
+    (w, rw (ap (λ (x : After). x.obus) c.plan_unit.ensures, ap (λ (x : After). x.plan) c.plan_unit.ensures) (planned_filled a.place a.unit.now a.obus.now a.plan.now q e c.requires))

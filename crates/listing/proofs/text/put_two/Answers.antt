@@ -1,4 +1,4 @@
-use native.Mathlib.Omega.{arith}
+use Rattle.std.proofs.Common.{arith, refl}
 use Rattle.base.specs.Lists.{Put}
 use Rattle.base.proofs.Lists.{put_then}
 use Rattle.listing.specs.Listing.{two_numbers}
@@ -9,4 +9,4 @@ pub returns : goal.returns
 unfolding two_numbers
 returns c = let all : Put c.args.out.now _ 0 _ (two_numbers c.args.first.now c.args.m c.args.second.now c.args.n) =
     put_then c.put_labelled-behind.ensures.0 (put_then c.put_labelled-end.ensures.0 c.put_text.ensures) in
-    printed all c.requires.0 (omega (arith, c.put_labelled-behind.ensures.1, c.put_labelled-end.ensures.1, c.put_text.ensures.cursor, c.requires.1))
+    printed all (omega arith) (omega (arith, c.put_labelled-behind.ensures.1, c.put_labelled-end.ensures.1, c.put_text.ensures.cursor, c.requires))
