@@ -5,13 +5,10 @@
 #![tactic(auto)]
 
 mod payloads;
-mod show;
 
 use std::io;
 
 fn main(rt: HostRuntime) -> io::Result<()> {
-    payloads::prefixes(&rt, false)?;
-    payloads::changes(&rt, false)?;
-    payloads::prefixes(&rt, true)?;
-    payloads::changes(&rt, true)
+    payloads::print_answers(&rt, &payloads::CONTINUED)?;
+    payloads::print_answers(&rt, &payloads::WHOLE)
 }

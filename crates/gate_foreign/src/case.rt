@@ -1,58 +1,79 @@
 // A case: packets given to the receiver, and its answer, its bytes, its state and what it threw away compared with what is expected.
 use base::Refusal;
-use receiver::{Padded, Receipt, Received, State};
+use receiver::{Padded, Received, State};
 use std::io;
 
 // The number of a case's first packet, the last before numbers wrap.
 pub const FIRST: u16 = 65535;
 
-fn print(rt: &impl Print, text: &[u8]) -> io::Result<()> {
-    rt.write_all(text)
+// The bytes of a case's store, and of the lent output.
+const STORE: usize = 16;
+
+const OUTPUT: usize = 256;
+
+// A case as far as it has come: the receiver's state, and its store.
+#[derive(Clone, Copy)]
+pub struct Case {
+    state: State,
+    store: [u8; STORE],
 }
 
-fn print_number(rt: &impl Print, n: usize) -> io::Result<()> {
-    print!(rt; "{n}")
+// What is thrown away with a packet: an open fragment, an element.
+#[derive(Clone, Copy, PartialEq)]
+pub struct Lost {
+    pub fragment: bool,
+    pub element: bool,
 }
 
-// Begins the line of a case, with a fresh receiver.
-pub fn begin(rt: &impl Print, n: usize) -> io::Result<State> {
-    print(rt, b"case ")?;
-    print_number(rt, n)?;
-    print(rt, b":")?;
-    Ok(receiver::FRESH)
+pub const NOTHING: Lost = Lost {
+    fragment: false,
+    element: false,
+};
+
+pub const FRAGMENT: Lost = Lost {
+    fragment: true,
+    element: false,
+};
+
+pub const ELEMENT: Lost = Lost {
+    fragment: false,
+    element: true,
+};
+
+pub const BOTH: Lost = Lost {
+    fragment: true,
+    element: true,
+};
+
+// What a packet that is taken gives: the bytes that go out, how many are open after it, and what is thrown away.
+#[derive(Clone, Copy)]
+pub struct Gives<'a> {
+    pub bytes: &'a [u8],
+    pub open: usize,
+    pub lost: Lost,
 }
 
 pub fn end(rt: &impl Print) -> io::Result<()> {
-    print(rt, b"\n")
-}
-
-fn print_hex(rt: &impl Print, b: u8) -> io::Result<()> {
-    print!(rt; "{b:02x}")
-}
-
-fn print_bytes(rt: &impl Print, bytes: &[u8]) -> io::Result<()> {
-    for b in bytes {
-        print_hex(rt, *b)?;
-    }
-    Ok(())
+    println!(rt; "")
 }
 
 // The first n bytes; all, if there are fewer.
 fn first(bytes: &[u8], n: usize) -> &[u8] {
-    if n <= bytes.len() { &bytes[..n] } else { bytes }
+    &bytes[..n.min(bytes.len())]
 }
 
 // What came instead: the bytes that went out, how many are open, and what was thrown away.
 fn print_taken(rt: &impl Print, got: Received, out: &[u8]) -> io::Result<()> {
-    print(rt, b" out ")?;
-    print_bytes(rt, first(out, got.bytes))?;
-    print(rt, b" open ")?;
-    print_number(rt, got.state.open)?;
+    print!(rt; " out ")?;
+    for b in first(out, got.bytes) {
+        print!(rt; "{b:02x}")?;
+    }
+    print!(rt; " open {}", got.state.open)?;
     if got.fragment_lost {
-        print(rt, b" fragment lost")?;
+        print!(rt; " fragment lost")?;
     }
     if got.element_lost {
-        print(rt, b" element lost")?;
+        print!(rt; " element lost")?;
     }
     Ok(())
 }
@@ -60,121 +81,121 @@ fn print_taken(rt: &impl Print, got: Received, out: &[u8]) -> io::Result<()> {
 // How many of its length fields, and how many size fields of the OBUs that it finishes, are padded.
 fn print_padded(rt: &impl Print, padded: Padded) -> io::Result<()> {
     if padded.lengths > 0 {
-        print(rt, b" padded lengths ")?;
-        print_number(rt, padded.lengths)?;
+        print!(rt; " padded lengths {}", padded.lengths)?;
     }
     if padded.sizes > 0 {
-        print(rt, b" padded sizes ")?;
-        print_number(rt, padded.sizes)?;
+        print!(rt; " padded sizes {}", padded.sizes)?;
     }
     Ok(())
 }
 
 fn print_refused(rt: &impl Print, refusal: Refusal) -> io::Result<()> {
-    print(rt, b" refused ")?;
-    print_number(rt, base::number(refusal) as usize)
+    print!(rt; " refused {}", base::number(refusal))
 }
 
-// The state says that this packet was taken, and that so many bytes are open.
-fn same_state(state: State, number: u16, open: usize) -> bool {
-    if state.begun {
-        if state.last == number {
-            return state.open == open;
-        }
+// The packet with this number was taken, and gave this.
+fn is_as_expected(got: Received, out: &[u8], number: u16, gives: Gives) -> bool {
+    let lost = Lost {
+        fragment: got.fragment_lost,
+        element: got.element_lost,
+    };
+    got.state.begun
+        && got.state.last == number
+        && got.state.open == gives.open
+        && lost == gives.lost
+        && check::same(first(out, got.bytes), gives.bytes)
+}
+
+impl Case {
+    // Begins the line of a case, with a fresh receiver.
+    pub fn begin(rt: &impl Print, n: usize) -> io::Result<Case> {
+        print!(rt; "case {n}:")?;
+        Ok(Case {
+            state: receiver::FRESH,
+            store: [0; STORE],
+        })
     }
-    false
-}
 
-// This was thrown away: an open fragment, an element.
-fn same_losses(got: Received, fragment: bool, element: bool) -> bool {
-    if got.fragment_lost == fragment {
-        return got.element_lost == element;
+    // A packet that is taken and throws nothing away: these bytes go out, and so many are open after it.
+    pub fn takes(
+        &mut self,
+        rt: &impl Print,
+        number: u16,
+        payload: &[u8],
+        bytes: &[u8],
+        open: usize,
+    ) -> io::Result<()> {
+        let gives = Gives {
+            bytes,
+            open,
+            lost: NOTHING,
+        };
+        self.gives(rt, number, payload, gives)
     }
-    false
-}
 
-// A packet that is taken and throws nothing away: these bytes go out, and so many are open after it.
-pub fn takes(
-    rt: &impl Print,
-    state: State,
-    number: u16,
-    payload: &[u8],
-    bytes: &[u8],
-    open: usize,
-    store: &mut [u8],
-) -> io::Result<State> {
-    loses(rt, state, number, payload, false, false, bytes, open, store)
-}
-
-// The same, and this is thrown away: an open fragment, an element.
-pub fn loses(
-    rt: &impl Print,
-    state: State,
-    number: u16,
-    payload: &[u8],
-    fragment: bool,
-    element: bool,
-    bytes: &[u8],
-    open: usize,
-    store: &mut [u8],
-) -> io::Result<State> {
-    let mut out = [0u8; 256];
-    match receiver::receive(state, number, payload, store, &mut out) {
-        Receipt::Refused(refusal) => {
-            print_refused(rt, refusal)?;
-            Ok(state)
-        }
-        Receipt::Received(got) => {
-            let next = got.state;
-            if same_state(next, number, open) {
-                if same_losses(got, fragment, element) {
-                    if check::same(first(&out, got.bytes), bytes) {
-                        print(rt, b" ok")?;
-                        print_padded(rt, got.padded)?;
-                        return Ok(next);
-                    }
+    // A packet that is taken, and gives this.
+    pub fn gives(
+        &mut self,
+        rt: &impl Print,
+        number: u16,
+        payload: &[u8],
+        gives: Gives,
+    ) -> io::Result<()> {
+        let mut out = [0u8; OUTPUT];
+        match receiver::receive(self.state, number, payload, &mut self.store, &mut out) {
+            Ok(got) => {
+                self.state = got.state;
+                if is_as_expected(got, &out, number, gives) {
+                    print!(rt; " ok")?;
+                    print_padded(rt, got.padded)
+                } else {
+                    print_taken(rt, got, &out)
                 }
             }
-            print_taken(rt, got, &out)?;
-            Ok(next)
+            Err(refusal) => print_refused(rt, refusal),
         }
     }
-}
 
-// A packet that is refused, with this number.
-pub fn refuses(
-    rt: &impl Print,
-    state: State,
-    number: u16,
-    payload: &[u8],
-    refused: u32,
-    store: &mut [u8],
-) -> io::Result<()> {
-    let mut out = [0u8; 256];
-    match receiver::receive(state, number, payload, store, &mut out) {
-        Receipt::Received(got) => print_taken(rt, got, &out),
-        Receipt::Refused(refusal) => {
-            if base::number(refusal) == refused {
-                return print(rt, b" ok");
-            }
-            print_refused(rt, refusal)
+    // A packet that is refused, with this number.
+    pub fn refuses(
+        &mut self,
+        rt: &impl Print,
+        number: u16,
+        payload: &[u8],
+        refused: u32,
+    ) -> io::Result<()> {
+        let mut out = [0u8; OUTPUT];
+        match receiver::receive(self.state, number, payload, &mut self.store, &mut out) {
+            Ok(got) => print_taken(rt, got, &out),
+            Err(refusal) if base::number(refusal) == refused => print!(rt; " ok"),
+            Err(refusal) => print_refused(rt, refusal),
         }
     }
 }
 
 // A case of one packet that is taken and leaves nothing open.
 pub fn whole(rt: &impl Print, n: usize, payload: &[u8], bytes: &[u8]) -> io::Result<()> {
-    let mut store = [0u8; 16];
-    let state = begin(rt, n)?;
-    takes(rt, state, FIRST, payload, bytes, 0, &mut store)?;
+    let mut case = Case::begin(rt, n)?;
+    case.takes(rt, FIRST, payload, bytes, 0)?;
     end(rt)
 }
 
 // A case of one packet that is refused.
 pub fn broken(rt: &impl Print, n: usize, payload: &[u8], refused: u32) -> io::Result<()> {
-    let mut store = [0u8; 16];
-    let state = begin(rt, n)?;
-    refuses(rt, state, FIRST, payload, refused, &mut store)?;
+    let mut case = Case::begin(rt, n)?;
+    case.refuses(rt, FIRST, payload, refused)?;
+    end(rt)
+}
+
+// A case of one packet, whose first element a fresh receiver throws away.
+pub fn headless(rt: &impl Print, n: usize, payload: &[u8], bytes: &[u8]) -> io::Result<()> {
+    let mut case = Case::begin(rt, n)?;
+    let gives = Gives {
+        bytes,
+        open: 0,
+        lost: ELEMENT,
+    };
+    case.gives(rt, FIRST, payload, gives)?;
     end(rt)
 }
 
@@ -188,9 +209,8 @@ pub fn two(
     second: &[u8],
     second_bytes: &[u8],
 ) -> io::Result<()> {
-    let mut store = [0u8; 16];
-    let state = begin(rt, n)?;
-    let next = takes(rt, state, FIRST, first, first_bytes, open, &mut store)?;
-    takes(rt, next, 0, second, second_bytes, 0, &mut store)?;
+    let mut case = Case::begin(rt, n)?;
+    case.takes(rt, FIRST, first, first_bytes, open)?;
+    case.takes(rt, 0, second, second_bytes, 0)?;
     end(rt)
 }

@@ -9,6 +9,7 @@
 mod case;
 mod padded;
 
+use case::{Case, Gives};
 use std::io;
 
 // Elements that all have a length field (E2).
@@ -210,19 +211,10 @@ fn cut_fronts(rt: &impl Print) -> io::Result<()> {
 fn three_packets(rt: &impl Print) -> io::Result<()> {
     // 50: Y, W 1. To the end: 30 A1. C0: Z, Y, W 0. 81 00 is 1: A2. 90: Z, W 1. To the end: A3 A4.
     // Out: nothing twice; then 32 04 A1 A2 A3 A4.
-    let mut store = [0u8; 16];
-    let state = case::begin(rt, 28)?;
-    let a = case::takes(rt, state, case::FIRST, b"\x50\x30\xA1", b"", 2, &mut store)?;
-    let b = case::takes(rt, a, 0, b"\xC0\x81\x00\xA2", b"", 3, &mut store)?;
-    case::takes(
-        rt,
-        b,
-        1,
-        b"\x90\xA3\xA4",
-        b"\x32\x04\xA1\xA2\xA3\xA4",
-        0,
-        &mut store,
-    )?;
+    let mut case = Case::begin(rt, 28)?;
+    case.takes(rt, case::FIRST, b"\x50\x30\xA1", b"", 2)?;
+    case.takes(rt, 0, b"\xC0\x81\x00\xA2", b"", 3)?;
+    case.takes(rt, 1, b"\x90\xA3\xA4", b"\x32\x04\xA1\xA2\xA3\xA4", 0)?;
     case::end(rt)
 }
 
@@ -231,20 +223,14 @@ fn lost_packet(rt: &impl Print) -> io::Result<()> {
     // 50: Y, W 1. To the end: 30 A1, open.
     // 80: Z, W 0, two numbers on. 02: A2 A3, thrown away. 02: 20 C1.
     // Out: nothing; then 22 01 C1. Lost: nothing; then fragment and element.
-    let mut store = [0u8; 16];
-    let state = case::begin(rt, 29)?;
-    let next = case::takes(rt, state, case::FIRST, b"\x50\x30\xA1", b"", 2, &mut store)?;
-    case::loses(
-        rt,
-        next,
-        1,
-        b"\x80\x02\xA2\xA3\x02\x20\xC1",
-        true,
-        true,
-        b"\x22\x01\xC1",
-        0,
-        &mut store,
-    )?;
+    let mut case = Case::begin(rt, 29)?;
+    case.takes(rt, case::FIRST, b"\x50\x30\xA1", b"", 2)?;
+    let gives = Gives {
+        bytes: b"\x22\x01\xC1",
+        open: 0,
+        lost: case::BOTH,
+    };
+    case.gives(rt, 1, b"\x80\x02\xA2\xA3\x02\x20\xC1", gives)?;
     case::end(rt)
 }
 
@@ -252,20 +238,14 @@ fn lost_packet(rt: &impl Print) -> io::Result<()> {
 fn lost_first(rt: &impl Print) -> io::Result<()> {
     // D0: Z, Y, W 1. To the end: A2, thrown away. 90: Z, W 1. To the end: A3, thrown away.
     // Out: nothing twice. Lost: the element twice.
-    let mut store = [0u8; 16];
-    let state = case::begin(rt, 30)?;
-    let next = case::loses(
-        rt,
-        state,
-        case::FIRST,
-        b"\xD0\xA2",
-        false,
-        true,
-        b"",
-        0,
-        &mut store,
-    )?;
-    case::loses(rt, next, 0, b"\x90\xA3", false, true, b"", 0, &mut store)?;
+    let mut case = Case::begin(rt, 30)?;
+    let gives = Gives {
+        bytes: b"",
+        open: 0,
+        lost: case::ELEMENT,
+    };
+    case.gives(rt, case::FIRST, b"\xD0\xA2", gives)?;
+    case.gives(rt, 0, b"\x90\xA3", gives)?;
     case::end(rt)
 }
 
@@ -274,11 +254,15 @@ fn lost_last(rt: &impl Print) -> io::Result<()> {
     // 50: Y, W 1. To the end: 30 A1, open. 50: Y, W 1, two numbers on. To the end: 28 B1, open.
     // 90: Z, W 1. To the end: B2.
     // Out: nothing twice; then 2A 02 B1 B2. Lost: nothing; the fragment; nothing.
-    let mut store = [0u8; 16];
-    let state = case::begin(rt, 31)?;
-    let a = case::takes(rt, state, case::FIRST, b"\x50\x30\xA1", b"", 2, &mut store)?;
-    let b = case::loses(rt, a, 1, b"\x50\x28\xB1", true, false, b"", 2, &mut store)?;
-    case::takes(rt, b, 2, b"\x90\xB2", b"\x2A\x02\xB1\xB2", 0, &mut store)?;
+    let mut case = Case::begin(rt, 31)?;
+    case.takes(rt, case::FIRST, b"\x50\x30\xA1", b"", 2)?;
+    let gives = Gives {
+        bytes: b"",
+        open: 2,
+        lost: case::FRAGMENT,
+    };
+    case.gives(rt, 1, b"\x50\x28\xB1", gives)?;
+    case.takes(rt, 2, b"\x90\xB2", b"\x2A\x02\xB1\xB2", 0)?;
     case::end(rt)
 }
 
@@ -287,64 +271,33 @@ fn again(rt: &impl Print) -> io::Result<()> {
     // 50: Y, W 1. To the end: 32 82, open. 90: Z, W 1. To the end: 00 A1: 82 00 is 2, and one byte follows.
     // Then whole, with the same number: 00 A1 A2.
     // Out: nothing; refused; then 32 02 A1 A2.
-    let mut store = [0u8; 16];
-    let state = case::begin(rt, 32)?;
-    let next = case::takes(rt, state, case::FIRST, b"\x50\x32\x82", b"", 2, &mut store)?;
-    case::refuses(rt, next, 0, b"\x90\x00\xA1", 18, &mut store)?;
-    case::takes(
-        rt,
-        next,
-        0,
-        b"\x90\x00\xA1\xA2",
-        b"\x32\x02\xA1\xA2",
-        0,
-        &mut store,
-    )?;
+    let mut case = Case::begin(rt, 32)?;
+    case.takes(rt, case::FIRST, b"\x50\x32\x82", b"", 2)?;
+    case.refuses(rt, 0, b"\x90\x00\xA1", 18)?;
+    case.takes(rt, 0, b"\x90\x00\xA1\xA2", b"\x32\x02\xA1\xA2", 0)?;
     case::end(rt)
 }
 
-// A packet in step that continues nothing, while a fragment is open (V5); the end of an OBU to a fresh receiver (V6, V10).
+// A packet in step that continues nothing, while a fragment is open (V5).
 fn nothing_joined(rt: &impl Print) -> io::Result<()> {
     // 50: Y, W 1. To the end: 30 A1 A2, open. 10: W 1. To the end: 32 00.
     // Out: nothing; then 32 00. Lost: nothing; then the fragment.
-    let mut store = [0u8; 16];
-    let state = case::begin(rt, 33)?;
-    let next = case::takes(
-        rt,
-        state,
-        case::FIRST,
-        b"\x50\x30\xA1\xA2",
-        b"",
-        3,
-        &mut store,
-    )?;
-    case::loses(
-        rt,
-        next,
-        0,
-        b"\x10\x32\x00",
-        true,
-        false,
-        b"\x32\x00",
-        0,
-        &mut store,
-    )?;
-    case::end(rt)?;
+    let mut case = Case::begin(rt, 33)?;
+    case.takes(rt, case::FIRST, b"\x50\x30\xA1\xA2", b"", 3)?;
+    let gives = Gives {
+        bytes: b"\x32\x00",
+        open: 0,
+        lost: case::FRAGMENT,
+    };
+    case.gives(rt, 0, b"\x10\x32\x00", gives)?;
+    case::end(rt)
+}
+
+// The end of an OBU to a fresh receiver (V6, V10).
+fn end_alone(rt: &impl Print) -> io::Result<()> {
     // 90: Z, W 1. To the end: 34, thrown away.
     // Out: nothing. Lost: the element.
-    let fresh = case::begin(rt, 34)?;
-    case::loses(
-        rt,
-        fresh,
-        case::FIRST,
-        b"\x90\x34",
-        false,
-        true,
-        b"",
-        0,
-        &mut store,
-    )?;
-    case::end(rt)
+    case::headless(rt, 34, b"\x90\x34", b"")
 }
 
 fn main(rt: HostRuntime) -> io::Result<()> {
@@ -362,5 +315,6 @@ fn main(rt: HostRuntime) -> io::Result<()> {
     lost_last(&rt)?;
     again(&rt)?;
     nothing_joined(&rt)?;
+    end_alone(&rt)?;
     padded::all(&rt)
 }

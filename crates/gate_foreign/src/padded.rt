@@ -1,5 +1,6 @@
 // Fields that are longer than they need to be, counted (F6, V18): length fields of all elements, size fields where an OBU is finished.
 use crate::case;
+use crate::case::Case;
 use std::io;
 
 // Both kinds in one packet, and bytes that only look so.
@@ -32,32 +33,14 @@ fn dropped(rt: &impl Print) -> io::Result<()> {
     )
 }
 
-// One packet for a fresh receiver, which throws its first element away.
-fn headless(rt: &impl Print, n: usize, payload: &[u8], bytes: &[u8]) -> io::Result<()> {
-    let mut store = [0u8; 16];
-    let state = case::begin(rt, n)?;
-    case::loses(
-        rt,
-        state,
-        case::FIRST,
-        payload,
-        false,
-        true,
-        bytes,
-        0,
-        &mut store,
-    )?;
-    case::end(rt)
-}
-
 // An element that is thrown away: its length counts, and what may be its size field is not looked at.
 fn thrown_away(rt: &impl Print) -> io::Result<()> {
     // A0: Z, W 2. 83 00 is 3: 32 80 00, thrown away. To the end: 30.
     // Out: 32 00. Padded: one length.
-    headless(rt, 39, b"\xA0\x83\x00\x32\x80\x00\x30", b"\x32\x00")?;
+    case::headless(rt, 39, b"\xA0\x83\x00\x32\x80\x00\x30", b"\x32\x00")?;
     // C0: Z, Y, W 0. 82 80 00 is 2: 32 80, thrown away, and so not left open.
     // Out: nothing. Padded: one length.
-    headless(rt, 40, b"\xC0\x82\x80\x00\x32\x80", b"")
+    case::headless(rt, 40, b"\xC0\x82\x80\x00\x32\x80", b"")
 }
 
 // Elements that are left open: the length counts where it stands, the size field in the packet that finishes the OBU.
@@ -92,19 +75,10 @@ fn left_open(rt: &impl Print) -> io::Result<()> {
 fn over_three(rt: &impl Print) -> io::Result<()> {
     // 50: Y, W 1. To the end: 32 82, open. C0: Z, Y, W 0. 81 00 is 1: 80. 80: Z, W 0. 83 00 is 3: 00 A1 A2: 82 80 00 is 2.
     // Out: nothing twice; then 32 02 A1 A2. Padded: nothing; one length; one length, one size.
-    let mut store = [0u8; 16];
-    let state = case::begin(rt, 43)?;
-    let a = case::takes(rt, state, case::FIRST, b"\x50\x32\x82", b"", 2, &mut store)?;
-    let b = case::takes(rt, a, 0, b"\xC0\x81\x00\x80", b"", 3, &mut store)?;
-    case::takes(
-        rt,
-        b,
-        1,
-        b"\x80\x83\x00\x00\xA1\xA2",
-        b"\x32\x02\xA1\xA2",
-        0,
-        &mut store,
-    )?;
+    let mut case = Case::begin(rt, 43)?;
+    case.takes(rt, case::FIRST, b"\x50\x32\x82", b"", 2)?;
+    case.takes(rt, 0, b"\xC0\x81\x00\x80", b"", 3)?;
+    case.takes(rt, 1, b"\x80\x83\x00\x00\xA1\xA2", b"\x32\x02\xA1\xA2", 0)?;
     case::end(rt)
 }
 

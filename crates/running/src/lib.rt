@@ -16,7 +16,7 @@ ghost use Rattle.running.specs.Streams.{Arrived, FrontWritten, Written};
 
 use std::io;
 use std::io::{ErrorKind, Read, Stderr, Stdin, Stdout, Write};
-use turns::{Came, Order};
+use turns::{Came, Failure, Order};
 
 // What a program reads from, and where it writes its bytes and says its lines.
 #[derive(Drop)]
@@ -84,12 +84,12 @@ fn read_all<R: Read>(from: &mut R, input: &mut [u8]) -> Came
     let mut done: usize = 0;
     while done < input.len() {
         match read_once(from, &mut input[done..]) {
-            Ok(0) => return Came::Read(done),
+            Ok(0) => return Ok(done),
             Ok(count) => done += count,
-            Err(_) => return Came::ReadFailed,
+            Err(_) => return Err(Failure::Read),
         }
     }
-    Came::Read(done)
+    Ok(done)
 }
 
 // Writes all, in one write where the system takes it so; false where a write fails.
@@ -128,10 +128,10 @@ fn obey<R: Read, W: Write, E: Write>(
     let written = write_all(&mut streams.to, &out[..write]);
     write_all(&mut streams.errors, &line[..say]);
     if !written {
-        return Came::WriteFailed;
+        return Err(Failure::Write);
     }
     if read == 0 {
-        return Came::Read(0);
+        return Ok(0);
     }
     read_all(&mut streams.from, &mut input[..read])
 }

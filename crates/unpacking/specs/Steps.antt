@@ -7,8 +7,7 @@ use Rattle.receiver.specs.Joining.{fresh}
 use Rattle.receiver.specs.Call.{Taken, state_of, After, leaves, answering}
 use Rattle.receiver.specs.declared.State.{State}
 use Rattle.turns.specs.Text.{line_bytes}
-use Rattle.turns.specs.Orders.{next_count, Told, ends, asks, tells, says, Within, Turned, Arrival, bytes, read_failed, write_failed, CameWithin}
-use Rattle.turns.specs.declared.Came.{Came}
+use Rattle.turns.specs.Orders.{next_count, Told, ends, asks, tells, says, Within, Turned, Arrival, bytes, read_failed, write_failed, Came, CameWithin}
 use Rattle.turns.specs.declared.Subject.{Subject}
 use Rattle.turns.specs.declared.Subject.TheVariants as subject
 use Rattle.turns.specs.declared.Word.TheVariants as word
@@ -17,7 +16,7 @@ use Rattle.unpacking.specs.declared.losses.Losses.{Losses}
 use Rattle.unpacking.specs.declared.Wait.{Wait}
 use Rattle.unpacking.specs.declared.Wait.TheVariants as wait
 use Rattle.unpacking.specs.declared.Place.{Place}
-use Rattle.unpacking.specs.declared.Turn.{Turn}
+use Rattle.turns.specs.declared.Turn.{Turn}
 
 -- the bytes of the version
 abbrev pub version_bytes : ℕ
@@ -134,17 +133,17 @@ pub record Lent (p : Place) (c : Came) (input store out line : List ℕ) : Type 
   pub possible : Possible p
 
 -- the turn is the one told, and the next step can start from it
-pub record Gives (t : Told Place) (turn : Turn) (line line' : List ℕ) : Type 0 where
+pub record Gives (t : Told Place) (turn : Turn Place) (line line' : List ℕ) : Type 0 where
   pub turned : Turned t turn.place turn.order line line' payload_bytes output_bytes
   pub possible : Possible turn.place
 
 -- the step comes to this: that turn, and these bytes in store and output
-pub record Comes (x : After (Told Place)) (turn : Turn) (line line' store out : List ℕ) : Type 0 where
+pub record Comes (x : After (Told Place)) (turn : Turn Place) (line line' store out : List ℕ) : Type 0 where
   pub gives : Gives x.answer turn line line'
   pub store_is : store ≡ x.store
   pub out_is : out ≡ x.output
 
 -- from here the program can go on: its order can be carried out, and the next step can start
-pub record Goes (turn : Turn) : Type 0 where
+pub record Goes (turn : Turn Place) : Type 0 where
   pub within : Within turn.order payload_bytes output_bytes
   pub possible : Possible turn.place

@@ -9,7 +9,6 @@ ghost use Rattle.std.specs.Prelude.{◌≡◌, [], length};
 ghost use Rattle.base.specs.Refusals.{number_of};
 ghost use Rattle.train.specs.Train.{counted_width, fields_of, head_of};
 ghost use Rattle.receiver.specs.Call.{answering};
-ghost use Rattle.turns.specs.Text.{line_bytes};
 ghost use Rattle.turns.specs.Orders.{arrival, says};
 ghost use Rattle.unpacking.specs.Unpack.{output_bytes, step_of};
 ghost use Rattle.unpacking.specs.Steps.{awaits, first, next, read_of, written_of, starts_with, close_told, version_told, broken_told, fields_told, payload_told, stepped, Possible, Gives, Comes, Lent};
@@ -17,9 +16,9 @@ ghost use Rattle.unpacking.specs.Steps.{awaits, first, next, read_of, written_of
 use base::Refusal;
 use losses::Losses;
 use receiver::State;
-use records::RecordStep;
-use train::{FieldsRead, HeadRead, RecordFields};
-use turns::{Came, Order, Subject, Word};
+use records::RecordFault;
+use train::RecordFields;
+use turns::{Came, Failure, LINE_BYTES, Subject, Word};
 
 // The bytes of the version, of a payload, of the output, and of the fragment store (L14, L15).
 const VERSION_BYTES: usize = 1;
@@ -54,11 +53,7 @@ pub struct Place {
 }
 
 // What the program does now, and where it then stands.
-#[derive(Clone, Copy)]
-pub struct Turn {
-    pub place: Place,
-    pub order: Order,
-}
+pub type Turn = turns::Turn<Place>;
 
 // The same record, with this to wait for.
 fn awaiting(place: Place, wait: Wait) -> Place
@@ -122,8 +117,8 @@ pub fn start() -> Turn
 }
 
 // The run is at its end: what was lost is said, if anything was.
-fn close(place: Place, line: &mut [u8]) -> Turn
-    requires { (length line.old ≡ line_bytes) × Possible place }
+fn close(place: Place, line: &mut [u8; LINE_BYTES]) -> Turn
+    requires { Possible place }
     ensures { Gives (close_told place) result line.old line.new }
 {
     let state = place.state;
@@ -143,8 +138,8 @@ fn close(place: Place, line: &mut [u8]) -> Turn
 }
 
 // A line is said, and then this is waited for; nothing is read.
-fn say(place: Place, wait: Wait, subject: Subject, word: Word, line: &mut [u8]) -> Turn
-    requires { (length line.old ≡ line_bytes) × Possible place }
+fn say(place: Place, wait: Wait, subject: Subject, word: Word, line: &mut [u8; LINE_BYTES]) -> Turn
+    requires { Possible place }
     ensures { Gives (says (awaits place wait) subject word 0) result line.old line.new }
 {
     Turn {
@@ -154,8 +149,8 @@ fn say(place: Place, wait: Wait, subject: Subject, word: Word, line: &mut [u8]) 
 }
 
 // Reading stops at this record.
-fn stop_at(place: Place, refusal: Refusal, line: &mut [u8]) -> Turn
-    requires { (length line.old ≡ line_bytes) × Possible place }
+fn stop_at(place: Place, refusal: Refusal, line: &mut [u8; LINE_BYTES]) -> Turn
+    requires { Possible place }
     ensures { Gives (broken_told place (number_of refusal)) result line.old line.new }
 {
     let word = Word::Refused(base::number(refusal));
@@ -163,19 +158,19 @@ fn stop_at(place: Place, refusal: Refusal, line: &mut [u8]) -> Turn
 }
 
 // After the version byte, or nothing.
-fn version_step(place: Place, got: &[u8], line: &mut [u8]) -> Turn
-    requires { (length line.old ≡ line_bytes) × Possible place }
+fn version_step(place: Place, got: &[u8], line: &mut [u8; LINE_BYTES]) -> Turn
+    requires { Possible place }
     ensures { Gives (version_told place (head_of got.now)) result line.old line.new }
 {
     match train::read_head(got) {
-        HeadRead::Train(head) => {
+        Ok(head) => {
             let width = head.width;
             Turn {
                 place: beginning(place, width),
                 order: turns::ask(0, width + train::NUMBER_WIDTH),
             }
         }
-        HeadRead::Refused(refusal) => {
+        Err(refusal) => {
             let word = Word::Refused(base::number(refusal));
             say(place, Wait::Close, Subject::Train, word, line)
         }
@@ -183,14 +178,14 @@ fn version_step(place: Place, got: &[u8], line: &mut [u8]) -> Turn
 }
 
 // After what stands before a payload, or what there was of it.
-fn fields_step(place: Place, got: &[u8], line: &mut [u8]) -> Turn
-    requires { (length line.old ≡ line_bytes) × Possible place }
+fn fields_step(place: Place, got: &[u8], line: &mut [u8; LINE_BYTES]) -> Turn
+    requires { Possible place }
     ensures { Gives (fields_told place (fields_of (counted_width place.width) got.now)) result line.old line.new }
 {
     match train::read_fields(got, place.width) {
-        FieldsRead::End => close(place, line),
-        FieldsRead::Refused(refusal) => stop_at(place, refusal, line),
-        FieldsRead::Fields(fields) => {
+        Ok(None) => close(place, line),
+        Err(refusal) => stop_at(place, refusal, line),
+        Ok(Some(fields)) => {
             let length = fields.length;
             if PAYLOAD_BYTES < length {
                 passing::read_away(place, length)
@@ -211,17 +206,17 @@ fn payload_step(
     got: &[u8],
     store: &mut [u8],
     out: &mut [u8],
-    line: &mut [u8],
+    line: &mut [u8; LINE_BYTES],
 ) -> Turn
-    requires { (length out.old ≡ output_bytes) × (length line.old ≡ line_bytes) × Possible place }
+    requires { (length out.old ≡ output_bytes) × Possible place }
     ensures { Comes (answering (payload_told place) (step_of place.state fields got.now store.old out.old))
         result line.old line.new store.new out.new }
 {
     let state = place.state;
     match records::unpack_record(state, fields, got, store, out) {
-        RecordStep::Broken(refusal) => stop_at(place, refusal, line),
-        RecordStep::PassedOver(refusal) => passing::pass_over(place, refusal, line),
-        RecordStep::Taken(taken) => {
+        Err(RecordFault::Broken(refusal)) => stop_at(place, refusal, line),
+        Err(RecordFault::PassedOver(refusal)) => passing::pass_over(place, refusal, line),
+        Ok(taken) => {
             let after = taken.state;
             let lost = losses::with_taken(place.losses, taken.fragment_lost, taken.element_lost);
             Turn {
@@ -266,7 +261,7 @@ pub fn step(
     input: &[u8],
     store: &mut [u8],
     out: &mut [u8],
-    line: &mut [u8],
+    line: &mut [u8; LINE_BYTES],
 ) -> Turn
     requires { Lent place came input.now store.old out.old line.old }
     ensures { Comes (stepped place (arrival came input.now) store.old out.old)
@@ -275,15 +270,15 @@ pub fn step(
     let wait = place.wait;
     let count = place.count;
     match came {
-        Came::ReadFailed => {
+        Err(Failure::Read) => {
             let about = read_subject(wait, count);
             say(place, Wait::Nothing, about, Word::ReadFailed, line)
         }
-        Came::WriteFailed => {
+        Err(Failure::Write) => {
             let about = written_subject(count);
             say(place, Wait::Nothing, about, Word::WriteFailed, line)
         }
-        Came::Read(n) => match wait {
+        Ok(n) => match wait {
             Wait::Version => version_step(place, &input[..n], line),
             Wait::Fields => fields_step(place, &input[..n], line),
             Wait::Payload(fields) => { payload_step(place, fields, &input[..n], store, out, line) }

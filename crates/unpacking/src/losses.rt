@@ -1,8 +1,9 @@
 // What `unpack` lost, and the line that says so (G15).
 ghost use Rattle.std.specs.Prelude.{◌≡◌, length};
 ghost use Rattle.base.specs.Lists.{front};
-ghost use Rattle.turns.specs.Text.{line_bytes};
 ghost use Rattle.unpacking.specs.Unpack.{no_losses, counted_if, with_taken, with_passed, with_open, is_none, losses_line};
+
+use turns::LINE_BYTES;
 
 // Packets passed over, open fragments and leading elements thrown away.
 #[derive(Clone, Copy)]
@@ -71,9 +72,7 @@ pub fn is_none(losses: Losses) -> bool
 }
 
 // The line at the front of the bytes lent, and how many it has.
-// Helper: `line` must have exactly LINE_BYTES bytes.
-pub fn put_losses(losses: Losses, line: &mut [u8]) -> usize
-    requires { length line.old ≡ line_bytes }
+pub fn put_losses(losses: Losses, line: &mut [u8; LINE_BYTES]) -> usize
     ensures { (result ≡ length (losses_line losses)) × (line.new ≡ front (losses_line losses) line.old) }
 {
     let passed = turns::put_labelled(b"lost: ", losses.packets, line, 0);

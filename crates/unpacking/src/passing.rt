@@ -1,17 +1,16 @@
 // Packets that are passed over; a payload over the store is read away before (G5, G16).
 ghost use Rattle.std.specs.Prelude.{◌≡◌, ℕ, List, length};
 ghost use Rattle.base.specs.Refusals.{number_of};
-ghost use Rattle.turns.specs.Text.{line_bytes};
 ghost use Rattle.unpacking.specs.Steps.{passed_told, at_once, away_told, left_told, Possible, Gives};
 
 use crate::{Place, Turn, Wait};
 use base::Refusal;
-use turns::{Subject, Word};
+use turns::{LINE_BYTES, Subject, Word};
 
 // The packet of this record is passed over, and the next record is read.
-// Helper: the width must be one that a train has, and `line` must have exactly LINE_BYTES bytes.
-pub fn pass_over(place: Place, refusal: Refusal, line: &mut [u8]) -> Turn
-    requires { (length line.old ≡ line_bytes) × Possible place }
+// Helper: the width must be one that a train has.
+pub fn pass_over(place: Place, refusal: Refusal, line: &mut [u8; LINE_BYTES]) -> Turn
+    requires { Possible place }
     ensures { Gives (passed_told place (number_of refusal)) result line.old line.new }
 {
     let state = place.state;
@@ -48,9 +47,9 @@ pub fn read_away(place: Place, left: usize) -> Turn
 }
 
 // After the next of them, or what there was of these.
-// Helper: the width must be one that a train has, and `line` must have exactly LINE_BYTES bytes.
-pub fn away_step(place: Place, left: usize, got: &[u8], line: &mut [u8]) -> Turn
-    requires { (length line.old ≡ line_bytes) × Possible place }
+// Helper: the width must be one that a train has.
+pub fn away_step(place: Place, left: usize, got: &[u8], line: &mut [u8; LINE_BYTES]) -> Turn
+    requires { Possible place }
     ensures { Gives (left_told place left (length got.now)) result line.old line.new }
 {
     if got.len() < at_once(left) {

@@ -5,13 +5,12 @@ ghost use Rattle.unpacking.specs.Unpack.{step_of};
 ghost use Rattle.unpacking.specs.Paper.{paper_step, answered};
 
 use base::Refusal;
-use receiver::{Receipt, Received, State};
+use receiver::{Received, State};
 use train::RecordFields;
 
-// What a record leads to: its packet is taken, or passed over; or reading stops, as the record is cut.
+// What a record whose packet isn't taken leads to: the packet is passed over; or reading stops, as the record is cut.
 #[derive(Clone, Copy)]
-pub enum RecordStep {
-    Taken(Received),
+pub enum RecordFault {
     PassedOver(Refusal),
     Broken(Refusal),
 }
@@ -23,17 +22,17 @@ pub fn unpack_record(
     payload: &[u8],
     store: &mut [u8],
     out: &mut [u8],
-) -> RecordStep
+) -> Result<Received, RecordFault>
     ensures { leaves (paper_step result) store.new out.new
         ≡ answering answered (step_of state fields payload.now store.old out.old) }
 {
     let number = fields.number;
     let length = fields.length;
     if payload.len() < length {
-        return RecordStep::Broken(Refusal::TrainCut);
+        return Err(RecordFault::Broken(Refusal::TrainCut));
     }
     match receiver::receive(state, number, &payload[..length], store, out) {
-        Receipt::Refused(refusal) => RecordStep::PassedOver(refusal),
-        Receipt::Received(received) => RecordStep::Taken(received),
+        Ok(received) => Ok(received),
+        Err(refusal) => Err(RecordFault::PassedOver(refusal)),
     }
 }

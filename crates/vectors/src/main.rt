@@ -12,11 +12,9 @@
 mod line;
 mod show;
 
-use crate::line::Line;
-use aggregation::HeaderAnswer;
-use base::Refusal;
-use packetizer::{PlanAnswer, Planned};
-use payloader::{WriteAnswer, Written};
+use base::RefusedAt;
+use line::{Line, UNIT_STORE};
+use packetizer::Planned;
 use std::io;
 use std::io::{Input, Read};
 
@@ -25,136 +23,82 @@ const LIST_STORE: usize = 24576;
 
 const OUTPUT_STORE: usize = 262144;
 
-// The aggregation header of packet k, by the header call.
-fn print_header(
-    rt: &impl Print,
-    unit: &[u8],
-    obus: &[u32],
-    plan: &[u32],
-    k: usize,
-) -> io::Result<()> {
-    match aggregation::get_aggregation_header(unit, obus, plan, k) {
-        HeaderAnswer::Header(header) => show::hex(rt, &[header]),
-        HeaderAnswer::Refused(refusal) => show::refusal(rt, refusal),
-    }
+// How many bytes are read at once.
+const TEXT: usize = 65536;
+
+// What a case is lent.
+#[derive(Clone, Copy)]
+struct Stores {
+    unit: [u8; UNIT_STORE],
+    obus: [u32; LIST_STORE],
+    plan: [u32; LIST_STORE],
+    output: [u8; OUTPUT_STORE],
 }
 
-fn print_headers(rt: &impl Print, unit: &[u8], obus: &[u32], plan: &[u32]) -> io::Result<()> {
-    let packets = plan.len() / packetizer::PLAN_NUMBERS;
-    for k in 0..packets {
-        show::between(rt, k)?;
-        print_header(rt, unit, obus, plan, k)?;
-    }
-    Ok(())
-}
-
-// What the writes of the first so many packets come to, each alone: the first refusal, or else what the last of them answers.
-fn try_packets(
+// A unit that is planned, at its mtu, with the lent lists.
+#[derive(Clone, Copy)]
+struct Case<'a> {
     mtu: usize,
-    unit: &[u8],
-    obus: &[u32],
-    plan: &[u32],
-    packets: usize,
-    output: &mut [u8],
-) -> WriteAnswer {
-    let mut bytes: usize = 0;
-    for k in 0..packets {
-        match payloader::write_packet(mtu, unit, obus, plan, k, output) {
-            WriteAnswer::Written(written) => {
-                bytes = written.bytes;
-            }
-            WriteAnswer::Refused { refusal, at } => {
-                return WriteAnswer::Refused {
-                    refusal: refusal,
-                    at: at,
-                };
-            }
+    unit: &'a [u8],
+    obus: &'a [u32],
+    plan: &'a [u32],
+}
+
+// The aggregation header of each packet, by the header call.
+fn print_headers(rt: &impl Print, unit: &[u8], obus: &[u32], plan: &[u32]) -> io::Result<()> {
+    for k in 0..plan.len() / packetizer::PLAN_NUMBERS {
+        show::between(rt, k)?;
+        match aggregation::get_aggregation_header(unit, obus, plan, k) {
+            Ok(header) => show::hex(rt, &[header])?,
+            Err(refusal) => show::refusal(rt, refusal)?,
         }
     }
-    WriteAnswer::Written(Written { bytes: bytes })
-}
-
-// Payload k, as it is written.
-fn print_payload(
-    rt: &impl Print,
-    mtu: usize,
-    unit: &[u8],
-    obus: &[u32],
-    plan: &[u32],
-    k: usize,
-    output: &mut [u8],
-) -> io::Result<()> {
-    match payloader::write_packet(mtu, unit, obus, plan, k, output) {
-        WriteAnswer::Written(written) => show::hex(rt, show::first_bytes(output, written.bytes)),
-        WriteAnswer::Refused { refusal, at } => print_refusal(rt, refusal, at),
-    }
-}
-
-// The first so many payloads.
-fn print_payloads(
-    rt: &impl Print,
-    mtu: usize,
-    unit: &[u8],
-    obus: &[u32],
-    plan: &[u32],
-    packets: usize,
-    output: &mut [u8],
-) -> io::Result<()> {
-    for k in 0..packets {
-        show::between(rt, k)?;
-        print_payload(rt, mtu, unit, obus, plan, k, output)?;
-    }
     Ok(())
 }
 
-// A unit all of whose packets can be written: of the two lists the filled parts are shown.
-fn print_planned(
-    rt: &impl Print,
-    planned: Planned,
-    mtu: usize,
-    unit: &[u8],
-    obus: &[u32],
-    plan: &[u32],
-    output: &mut [u8],
-) -> io::Result<()> {
-    let listed = base::smaller(planned.obus, LIST_STORE) * obu::OBU_NUMBERS;
-    let recorded = base::smaller(planned.packets, LIST_STORE) * packetizer::PLAN_NUMBERS;
-    let listed = show::first_numbers(obus, listed);
-    let recorded = show::first_numbers(plan, recorded);
-    show::text(rt, b"obus ")?;
-    show::count(rt, planned.obus)?;
-    show::records(rt, listed, obu::OBU_NUMBERS)?;
-    show::text(rt, b" packets ")?;
-    show::count(rt, planned.packets)?;
-    show::records(rt, recorded, packetizer::PLAN_NUMBERS)?;
-    if planned.packets > 0 {
-        show::text(rt, b" headers")?;
-        print_headers(rt, unit, listed, recorded)?;
-        show::text(rt, b" payloads")?;
-        print_payloads(rt, mtu, unit, obus, plan, planned.packets, output)?;
+impl Case<'_> {
+    // What the writes of the first so many packets come to, each alone: the first refusal, if there is one.
+    fn try_packets(&self, packets: usize, output: &mut [u8]) -> Result<(), RefusedAt> {
+        for k in 0..packets {
+            payloader::write_packet(self.mtu, self.unit, self.obus, self.plan, k, output)?;
+        }
+        Ok(())
     }
-    Ok(())
-}
 
-fn print_refusal(rt: &impl Print, refusal: Refusal, at: usize) -> io::Result<()> {
-    show::refusal(rt, refusal)?;
-    show::text(rt, b" ")?;
-    show::count(rt, at)
-}
+    // The first so many payloads, each as it is written.
+    fn print_payloads(&self, rt: &impl Print, packets: usize, output: &mut [u8]) -> io::Result<()> {
+        for k in 0..packets {
+            show::between(rt, k)?;
+            match payloader::write_packet(self.mtu, self.unit, self.obus, self.plan, k, output) {
+                Ok(written) => show::hex(rt, &output[..written.bytes.min(output.len())])?,
+                Err(refused) => show::refusal_at(rt, refused)?,
+            }
+        }
+        Ok(())
+    }
 
-// What is printed of a unit that is planned.
-fn answer_planned(
-    rt: &impl Print,
-    planned: Planned,
-    mtu: usize,
-    unit: &[u8],
-    obus: &[u32],
-    plan: &[u32],
-    output: &mut [u8],
-) -> io::Result<()> {
-    match try_packets(mtu, unit, obus, plan, planned.packets, output) {
-        WriteAnswer::Written(_) => print_planned(rt, planned, mtu, unit, obus, plan, output),
-        WriteAnswer::Refused { refusal, at } => print_refusal(rt, refusal, at),
+    // A unit all of whose packets can be written: of the two lists the filled parts are shown.
+    fn print_planned(
+        &self,
+        rt: &impl Print,
+        planned: Planned,
+        output: &mut [u8],
+    ) -> io::Result<()> {
+        let listed = planned.obus.saturating_mul(obu::OBU_NUMBERS);
+        let recorded = planned.packets.saturating_mul(packetizer::PLAN_NUMBERS);
+        let listed = &self.obus[..listed.min(self.obus.len())];
+        let recorded = &self.plan[..recorded.min(self.plan.len())];
+        print!(rt; "obus {}", planned.obus)?;
+        show::records(rt, listed, obu::OBU_NUMBERS)?;
+        print!(rt; " packets {}", planned.packets)?;
+        show::records(rt, recorded, packetizer::PLAN_NUMBERS)?;
+        if planned.packets > 0 {
+            print!(rt; " headers")?;
+            print_headers(rt, self.unit, listed, recorded)?;
+            print!(rt; " payloads")?;
+            self.print_payloads(rt, planned.packets, output)?;
+        }
+        Ok(())
     }
 }
 
@@ -167,94 +111,74 @@ fn answer(
     plan: &mut [u32],
     output: &mut [u8],
 ) -> io::Result<()> {
-    match packetizer::plan_unit(mtu, unit, obus, plan) {
-        PlanAnswer::Planned(planned) => answer_planned(rt, planned, mtu, unit, obus, plan, output),
-        PlanAnswer::Refused { refusal, at } => print_refusal(rt, refusal, at),
+    let planned = match packetizer::plan_unit(mtu, unit, obus, plan) {
+        Ok(planned) => planned,
+        Err(refused) => return show::refusal_at(rt, refused),
+    };
+    let case = Case {
+        mtu,
+        unit,
+        obus,
+        plan,
+    };
+    match case.try_packets(planned.packets, output) {
+        Ok(()) => case.print_planned(rt, planned, output),
+        Err(refused) => show::refusal_at(rt, refused),
     }
 }
 
-fn end_of_line(
-    rt: &impl Print,
-    line: Line,
-    unit: &mut [u8],
-    obus: &mut [u32],
-    plan: &mut [u32],
-    output: &mut [u8],
-) -> io::Result<()> {
-    let length = line::finish_unit(line, unit);
-    let listed = base::smaller(line.obus, obus.len());
-    let planned = base::smaller(line.plan, plan.len());
-    let bytes = base::smaller(line.output, output.len());
-    answer(
-        rt,
-        line.mtu,
-        &unit[..length],
-        &mut obus[..listed],
-        &mut plan[..planned],
-        &mut output[..bytes],
-    )?;
-    show::text(rt, b"\n")
-}
-
-// One byte of the input.
-fn step(
-    rt: &impl Print,
-    line: Line,
-    b: u8,
-    unit: &mut [u8],
-    obus: &mut [u32],
-    plan: &mut [u32],
-    output: &mut [u8],
-) -> io::Result<Line> {
-    if b == 10 {
-        end_of_line(rt, line, unit, obus, plan, output)?;
-        return Ok(line::empty_line());
+impl Stores {
+    fn end_of_line(&mut self, rt: &impl Print, line: &Line) -> io::Result<()> {
+        let length = line.finish_unit(&mut self.unit);
+        let obus = &mut self.obus[..];
+        let plan = &mut self.plan[..];
+        let output = &mut self.output[..];
+        answer(
+            rt,
+            line.mtu,
+            &self.unit[..length],
+            &mut obus[..line.obus.min(LIST_STORE)],
+            &mut plan[..line.plan.min(LIST_STORE)],
+            &mut output[..line.output.min(OUTPUT_STORE)],
+        )?;
+        println!(rt; "")
     }
-    Ok(line::take_byte(line, b, unit))
-}
 
-fn feed(
-    rt: &impl Print,
-    line: Line,
-    text: &[u8],
-    unit: &mut [u8],
-    obus: &mut [u32],
-    plan: &mut [u32],
-    output: &mut [u8],
-) -> io::Result<Line> {
-    let mut now = line;
-    for b in text {
-        now = step(rt, now, *b, unit, obus, plan, output)?;
+    // The next bytes of the input, in this line at first.
+    fn feed(&mut self, rt: &impl Print, line: &mut Line, text: &[u8]) -> io::Result<()> {
+        for b in text {
+            if *b == b'\n' {
+                self.end_of_line(rt, line)?;
+                *line = line::EMPTY;
+            } else {
+                line.take_byte(*b, &mut self.unit);
+            }
+        }
+        Ok(())
     }
-    Ok(now)
 }
 
 // Reads to the end of the input. The turns only say that the loop ends: no run uses them up.
-fn replay(
-    rt: &(impl Print + Input),
-    text: &mut [u8],
-    unit: &mut [u8],
-    obus: &mut [u32],
-    plan: &mut [u32],
-    output: &mut [u8],
-) -> io::Result<()> {
+fn replay(rt: &(impl Print + Input), stores: &mut Stores) -> io::Result<()> {
+    let mut text = [0u8; TEXT];
     let mut input = rt.reader();
-    let mut line = line::empty_line();
+    let mut line = line::EMPTY;
     for _ in 0..u64::MAX {
-        let n = input.read(text)?;
+        let n = input.read(&mut text)?;
         if n == 0 {
             break;
         }
-        line = feed(rt, line, &text[..n], unit, obus, plan, output)?;
+        stores.feed(rt, &mut line, &text[..n])?;
     }
     Ok(())
 }
 
 fn main(rt: HostRuntime) -> io::Result<()> {
-    let mut text = [0u8; 65536];
-    let mut unit = [0u8; line::UNIT_STORE];
-    let mut obus = [0u32; LIST_STORE];
-    let mut plan = [0u32; LIST_STORE];
-    let mut output = [0u8; OUTPUT_STORE];
-    replay(&rt, &mut text, &mut unit, &mut obus, &mut plan, &mut output)
+    let mut stores = Stores {
+        unit: [0; UNIT_STORE],
+        obus: [0; LIST_STORE],
+        plan: [0; LIST_STORE],
+        output: [0; OUTPUT_STORE],
+    };
+    replay(&rt, &mut stores)
 }

@@ -7,4 +7,4 @@ use Rattle.unpacking.proofs.say.Goals as goal
 
 pub returns : goal.returns
 returns c = let a = c.args in
-    gives (awaits a.place a.wait) c.awaiting.ensures c.requires.1 (said (awaits a.place a.wait) a.subject a.word 0 refl c.awaiting.ensures c.say.ensures (omega arith))
+    gives (awaits a.place a.wait) c.awaiting.ensures c.requires (said (awaits a.place a.wait) a.subject a.word 0 refl c.awaiting.ensures c.say.ensures (omega arith))

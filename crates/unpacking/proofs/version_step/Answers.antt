@@ -3,10 +3,9 @@ use Prim.Native.Nat.{ℕ, ◌≤◌}
 use native.Mathlib.Omega.{arith}
 use mathlib.Core.List.{[]}
 use Rattle.train.specs.Train.{long_head, head_of}
-use Rattle.train.specs.Paper.{paper_head}
 use Rattle.train.specs.declared.TrainHead.{TrainHead}
 use Rattle.train.proofs.Reading.{head_width_lem, counted_within}
-use Rattle.base.specs.Answers.{given}
+use Rattle.base.specs.Answers.{given, paper}
 use Rattle.turns.specs.Orders.{says}
 use Rattle.turns.specs.declared.Subject.TheVariants as subject
 use Rattle.turns.specs.declared.Word.TheVariants as word
@@ -18,15 +17,15 @@ use Rattle.unpacking.proofs.version_step.Goals as goal
 
 pub overflow_add-width : goal.overflow_add-width
 overflow_add-width c =
-    let head_at : TrainHead = c.in-Train.head in
-    let known : given (head_at) ≡ head_of c.args.got.now = sym (ap paper_head c.in-Train.is) ∙ c.read_head.ensures in
+    let head_at : TrainHead = c.in-Ok.head in
+    let known : given (head_at) ≡ head_of c.args.got.now = sym (ap paper c.in-Ok.is) ∙ c.read_head.ensures in
     let narrow : (head_at).width ≤ long_head.width = omega (arith, head_width_lem c.args.got.now (known), counted_within (head_at).width) in
     omega (arith, narrow)
 
-pub returns-in-Train : goal.returns-in-Train
-returns-in-Train c =
-    let head_at : TrainHead = c.in-Train.head in
-    let known : given (head_at) ≡ head_of c.args.got.now = sym (ap paper_head c.in-Train.is) ∙ c.read_head.ensures in
+pub returns-in-Ok : goal.returns-in-Ok
+returns-in-Ok c =
+    let head_at : TrainHead = c.in-Ok.head in
+    let known : given (head_at) ≡ head_of c.args.got.now = sym (ap paper c.in-Ok.is) ∙ c.read_head.ensures in
     let narrow : (head_at).width ≤ long_head.width = omega (arith, head_width_lem c.args.got.now (known), counted_within (head_at).width) in
     let place = c.args.place in
     let w = (head_at).width in
@@ -35,9 +34,9 @@ returns-in-Train c =
     gives p there (narrow)
     (asked p [] 0 (fields_width w) (ap (version_told place) (sym (known))) there c.ask.ensures refl (omega arith) (omega (arith, narrow)))
 
-pub returns-in-Refused : goal.returns-in-Refused
-returns-in-Refused c = let p = c.args.place in
-    let e = sym c.read_head.ensures ∙ ap paper_head c.in-Refused.is in
+pub returns-in-Err : goal.returns-in-Err
+returns-in-Err c = let p = c.args.place in
+    let e = sym c.read_head.ensures ∙ ap paper c.in-Err.is in
     gives_as
     (ap (version_told p) e ∙ ap (λ (c : ℕ). says (awaits p wait.Close) subject.Train (word.Refused c) 0) (sym c.number.ensures))
     c.say.ensures

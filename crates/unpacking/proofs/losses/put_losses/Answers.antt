@@ -10,4 +10,4 @@ returns c = let all : Put c.args.line.now _ 0 _ (losses_line c.args.losses) =
     put_then c.put_labelled-passed.ensures.0
     (put_then c.put_labelled-open.ensures.0 (put_then c.put_labelled-end.ensures.0 c.put_text.ensures)) in
     put_front all
-    (omega (arith, c.put_labelled-passed.ensures.1, c.put_labelled-open.ensures.1, c.put_labelled-end.ensures.1, c.put_text.ensures.cursor, c.requires))
+    (omega (arith, c.put_labelled-passed.ensures.1, c.put_labelled-open.ensures.1, c.put_labelled-end.ensures.1, c.put_text.ensures.cursor))

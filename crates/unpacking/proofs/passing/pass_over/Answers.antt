@@ -12,5 +12,5 @@ pub returns : goal.returns
 returns c = let p = c.args.place in
     let new = next p p.state (with_passed p.losses) in
     let there = c.following.ensures ∙ ap (next p p.state) c.with_passed-lost.ensures in
-    gives new there c.requires.1
-    (said new (subject.Record p.count) (word.Refused c.number.result) (fields_width p.width) (ap (passed_told p) (sym c.number.ensures)) there c.say.ensures (omega (arith, c.requires.1)))
+    gives new there c.requires
+    (said new (subject.Record p.count) (word.Refused c.number.result) (fields_width p.width) (ap (passed_told p) (sym c.number.ensures)) there c.say.ensures (omega (arith, c.requires)))
