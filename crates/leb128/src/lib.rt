@@ -9,8 +9,10 @@ ghost use Rattle.leb128.specs.Paper.{paper_tail, of_two};
 
 use base::Refusal;
 
-// The most bytes that a size field may have; the largest value is that of a `u32`.
+// The most bytes that a size field may have, and the largest value.
 const LONGEST_FIELD: usize = 8;
+
+const LARGEST_VALUE: u64 = 4294967295;
 
 // A size field that was read: its value, the bytes that it takes, and whether they are its shortest form.
 #[derive(Clone, Copy, Debug, PartialEq, Eq)]
@@ -82,9 +84,11 @@ pub fn read_leb128(bytes: &[u8]) -> Result<SizeField, Refusal>
         _ => {}
     }
     let tail = read_tail(bytes, LONGEST_FIELD)?;
-    let Ok(value) = u32::try_from(tail.value) else {
+    // A test and a cast: with `try_from` every call takes an instruction more.
+    if tail.value > LARGEST_VALUE {
         return Err(Refusal::SizeTooLarge);
-    };
+    }
+    let value = tail.value as u32;
     Ok(SizeField {
         value,
         used: tail.used,

@@ -19,7 +19,7 @@ overflow_mul-result t c =
 pub overflow_add-result : goal.overflow_add-result
 overflow_add-result t c =
     let h = rest_small c.args.left _ c.in_ok-tail.tail.value c.in_ok-tail.tail.used c.requires c.if-left-eq0.false c.in_ok-tail.ensures in
-    omega (arith, and_le_r (get_or c.args.bytes.now 0 0) 127)
+    omega (arith, and_le_r)
 
 pub overflow_add-result-2 : goal.overflow_add-result-2
 overflow_add-result-2 t c =

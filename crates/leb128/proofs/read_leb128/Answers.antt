@@ -32,12 +32,10 @@ returns-in-len2-up c = let l = c.args.bytes.now in
     ∙ ap answer_by (capped_small l _ 2 (sym (field_two 6 l c.in-len2-up.len_at_least c.if-first-lt128.false small)) (omega arith))
 
 pub returns : goal.returns
-returns c =
-    let e = c.in-Ok.ensures in
-    answers _ _ c.is_padded.ensures (capped_small _ _ _ (ap (λ (v : ℕ). sized v c.in_ok-tail.tail.used) e.1 ∙ c.in_ok-tail.ensures) (omega (arith, e.0, e.1)))
+returns c = answers _ _ c.is_padded.ensures (capped_small _ _ _ c.in_ok-tail.ensures (omega (arith, c.if-tail-gt-LARGEST_VALUE.false)))
 
-pub returns-in_default-try_from : goal.returns-in_default-try_from
-returns-in_default-try_from c = ap answer_by (capped_large _ _ _ c.in_ok-tail.ensures (omega (arith, c.in_default-try_from.ensures)))
+pub returns-then-tail-gt-LARGEST_VALUE : goal.returns-then-tail-gt-LARGEST_VALUE
+returns-then-tail-gt-LARGEST_VALUE c = ap answer_by (capped_large _ _ _ c.in_ok-tail.ensures (omega (arith, c.if-tail-gt-LARGEST_VALUE.true)))
 
 pub returns-in_err-tail : goal.returns-in_err-tail
 returns-in_err-tail c =
