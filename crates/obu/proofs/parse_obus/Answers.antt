@@ -2,7 +2,6 @@ use mathlib.Core.Path.{sym, ap, ◌∙◌}
 use Prim.Native.Nat.{◌/◌}
 use native.Mathlib.Omega.{arith}
 use lib.ListN.{length}
-use Rattle.std.proofs.lemmas.Result.{err_from_is_err_and}
 use Rattle.base.specs.Answers.{Answer, stored}
 use Rattle.obu.specs.Unit.{obus_of}
 use Rattle.obu.specs.Records.{flat, obu_numbers}
@@ -25,9 +24,3 @@ pub returns : goal.returns
 returns c =
     let a = c.args in
     (c.in_ok-listed.ensures, c.store_obus.ensures ∙ ap (λ (x : Answer Listed). stored x (flat (obus_of a.unit.now)) a.obus.now) c.in_ok-listed.ensures)
-
-pub returns-in_err-listed : goal.returns-in_err-listed
-returns-in_err-listed c =
-    let a = c.args in
-    let p = err_from_is_err_and c.from_residual.result c.from_residual.ensures.1 in
-    (rw (p.1, p.2) c.in_err-listed.ensures, ap (λ (x : Answer Listed). stored x (flat (obus_of a.unit.now)) a.obus.now) c.in_err-listed.ensures)
