@@ -245,7 +245,7 @@ pub fn plan_unit(mtu: usize, unit: &[u8], obus: &mut [u32], plan: &mut [u32]) ->
 pub fn same_plan(mtu: usize, unit: &[u8], obus: &[u32], plan: &[u32]) -> Result<Planned, RefusedAt>
     ensures { paper_at result ≡ same_plan mtu unit.now obus.now plan.now }
 {
-    if mtu > MTU_LIMIT {
+    if MTU_LIMIT < mtu {
         return Err(Refusal::MtuOverLimit.into());
     }
     let kept = obu::same_list(unit, obus)?;

@@ -1,9 +1,8 @@
 use mathlib.Core.Path.{sym, ◌∙◌}
-use Prim.Native.Nat.{◌≤◌}
 use native.Mathlib.Omega.{arith}
 use Rattle.obu.specs.Records.{obus_in}
 use Rattle.obu.proofs.Records.{obus_count}
-use Rattle.packetizer.specs.Plan.{least_mtu, plan_of}
+use Rattle.packetizer.specs.Plan.{plan_of}
 use Rattle.packetizer.specs.Call.{sizes}
 use Rattle.packetizer.proofs.Turns.{sizes_count}
 use Rattle.packetizer.proofs.Comparing.{low_same, passed_first, walkable, passed_few, passed_near, passed_next, passed_other, passed_end, compared_same, compared_other}
