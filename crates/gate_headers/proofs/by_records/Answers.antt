@@ -4,7 +4,7 @@ use Rattle.gate_headers.proofs.by_records.Goals as goal
 
 pub returns : goal.returns
 unfolding of_records
-returns c = c.code.ensures ∙ ap code_of c.header_in.ensures
+returns c = c.code.ensures ∙ ap code_of c.header_of.ensures
     ∙ simp (
       c.an_obu.ensures,
       c.an_obu-2.ensures,
