@@ -3,7 +3,6 @@
 
 ghost use Rattle.std.specs.Prelude.{◌≡◌};
 ghost use Rattle.base.specs.Answers.{paper};
-ghost use Rattle.aggregation.specs.Header.{header_of};
 ghost use Rattle.gate_headers.specs.Rows.{obu_of, packet_of, code_of, of_records, of_numbers};
 
 use base::Refusal;
@@ -65,6 +64,7 @@ fn a_packet(first: u32, elements: u32, offset: u32, last: u32, start: u32) -> Pa
     }
 }
 
+#[tactic(auto, unfolding(crate::specs::Rows::of_records))]
 fn by_records(unit: &[u8], k: usize) -> u64
     ensures { result ≡ of_records unit.now k }
 {
@@ -87,6 +87,7 @@ fn by_records(unit: &[u8], k: usize) -> u64
     code(aggregation::header_of(unit, &obus, &packets, k))
 }
 
+#[tactic(auto, unfolding(crate::specs::Rows::of_numbers))]
 fn by_numbers(unit: &[u8], k: usize) -> u64
     ensures { result ≡ of_numbers unit.now k }
 {
