@@ -3,7 +3,6 @@
 
 ghost use Rattle.std.specs.Prelude.{◌≡◌};
 ghost use Rattle.base.specs.Answers.{paper};
-ghost use Rattle.aggregation.specs.Header.{header_of};
 ghost use Rattle.gate_headers.specs.Rows.{obu_of, packet_of, code_of, of_records, of_numbers};
 
 use base::Refusal;
@@ -29,18 +28,6 @@ const OTHER: [u8; 2] = [0, 48];
 const REDUCED: [u8; 2] = [8, 255];
 
 const SHORT: [u8; 1] = [0];
-
-// Arrays of records by value, lent as slices: so its callers are covered.
-fn header_in(
-    unit: &[u8],
-    obus: [Obu; 4],
-    packets: [PacketMetadata; 8],
-    k: usize,
-) -> Result<u8, Refusal>
-    ensures { paper result ≡ header_of unit.now obus packets k }
-{
-    aggregation::header_of(unit, &obus, &packets, k)
-}
 
 // The byte, or 256 plus the number of the refusal.
 fn code(answer: Result<u8, Refusal>) -> u64
@@ -77,6 +64,7 @@ fn a_packet(first: u32, elements: u32, offset: u32, last: u32, start: u32) -> Pa
     }
 }
 
+#[tactic(auto, unfolding(crate::specs::Rows::of_records))]
 fn by_records(unit: &[u8], k: usize) -> u64
     ensures { result ≡ of_records unit.now k }
 {
@@ -96,15 +84,14 @@ fn by_records(unit: &[u8], k: usize) -> u64
         a_packet(0, 0, 0, 1, 0),
         a_packet(0, 1, 0, 2, 4294967295),
     ];
-    code(header_in(unit, obus, packets, k))
+    code(aggregation::header_of(unit, &obus, &packets, k))
 }
 
+#[tactic(auto, unfolding(crate::specs::Rows::of_numbers))]
 fn by_numbers(unit: &[u8], k: usize) -> u64
     ensures { result ≡ of_numbers unit.now k }
 {
-    let obus = OBUS;
-    let plan = PLAN;
-    code(aggregation::get_aggregation_header(unit, &obus, &plan, k))
+    code(aggregation::get_aggregation_header(unit, &OBUS, &PLAN, k))
 }
 
 fn row(unit: &[u8], k: usize, value: u64)
@@ -114,22 +101,19 @@ fn row(unit: &[u8], k: usize, value: u64)
     check::expect(by_numbers(unit, k) == value);
 }
 
+#[tactic(auto, unfolding(base::specs::Lists::keep, base::specs::Records::records_from, aggregation::specs::New::before_frame, aggregation::specs::New::from_frame, aggregation::specs::New::n_of, aggregation::specs::Header::byte_of, aggregation::specs::Header::any_outside, aggregation::specs::Header::header_of, crate::specs::Rows::of_records, crate::specs::Rows::of_numbers))]
 fn main() {
-    let key = KEY;
-    row(&key, 0, 0x58);
-    row(&key, 1, 0x90);
-    row(&key, 2, 0xD0);
-    row(&key, 3, 0xE0);
-    row(&key, 4, 0x00);
-    row(&key, 5, 267);
-    row(&key, 6, 267);
-    row(&key, 7, 267);
-    row(&key, 8, 267);
-    let other = OTHER;
-    row(&other, 0, 0x50);
-    let reduced = REDUCED;
-    row(&reduced, 0, 0x58);
-    let short = SHORT;
-    row(&short, 0, 267);
-    row(&short, 1, 267);
+    row(&KEY, 0, 0x58);
+    row(&KEY, 1, 0x90);
+    row(&KEY, 2, 0xD0);
+    row(&KEY, 3, 0xE0);
+    row(&KEY, 4, 0x00);
+    row(&KEY, 5, 267);
+    row(&KEY, 6, 267);
+    row(&KEY, 7, 267);
+    row(&KEY, 8, 267);
+    row(&OTHER, 0, 0x50);
+    row(&REDUCED, 0, 0x58);
+    row(&SHORT, 0, 267);
+    row(&SHORT, 1, 267);
 }

@@ -21,14 +21,6 @@ head_of o = cleared o.header ∷ extension_bytes o.header o.extension
 pub head_length : (o : Obu) → length (head_of o) ≡ header_length o.header
 head_length o = omega (arith, extension_length o.header o.extension)
 
-pub head_first : (o : Obu) (i : ℕ) → i ≡ 0 → cleared o.header ≡ get_or (head_of o) i 0
-head_first o i e = rw e
-
-pub head_second : (o : Obu) (i : ℕ) → i < header_length o.header → (i ≡ 0 → ⊥) → o.extension ≡ get_or (head_of o) i 0
-head_second o i h n =
-    let e : i ≡ 1 = omega arith in
-    rw (e, eq-eqb (extension_bit o.header) 1 (omega arith))
-
 take_min : (n : ℕ) (l : List ℕ) → take n l ≡ take (min n (length l)) l
 take_min n l =
     split_on (leb n (length l))

@@ -130,7 +130,8 @@ fn run_bytes(plan: &[u32], first: usize, count: usize) -> usize
     last.payload_start as usize + last.packet_size as usize + 1 - start
 }
 
-// Writes so many packets of a unit's plan, from one on, one after the other. N is looked for once.
+// Writes so many packets of a unit's plan, from one on, one after the other. N is looked for once. Mtu, unit, list and plan come one by one,
+// as every call has them: a struct of them would be made for this call alone.
 fn put_packets(
     mtu: usize,
     unit: &[u8],

@@ -1,5 +1,5 @@
 use mathlib.Core.Path.{◌≡◌, sym, ap, ◌∙◌}
-use Prim.Native.Nat.{ℕ, ◌+◌, ◌-◌, ◌≤◌, min}
+use Prim.Native.Nat.{ℕ, ◌+◌, ◌-◌, min}
 use native.Mathlib.Omega.{arith}
 use lib.ListN.{length, take, drop, length-drop}
 use lib.Seq.{sets, length-take-le}
@@ -7,16 +7,6 @@ use Rattle.base.proofs.Lists.{sets_append}
 use Rattle.obu.specs.Header.{header_length}
 use Rattle.payloader.proofs.Parts.{head_of, head_length, in_head, part_split}
 use Rattle.payloader.proofs.put_part.Goals as goal
-
-pub put_head-requires : goal.put_head-requires
-put_head-requires c = let o = c.args.o in
-    let from = c.args.from in
-    let n = c.args.n in
-    let e : c.min-inside.result ≡ min n (header_length o.header - from) =
-    c.min-inside.ensures ∙ ap (min n) (c.saturating_sub.ensures ∙ ap (λ (x : ℕ). x - from) c.header_size-head.ensures) in
-    let a : c.min-inside.result ≤ header_length o.header - from = omega arith in
-    let b : c.args.at + c.min-inside.result ≤ length c.args.out.now = omega (arith, c.requires.2) in
-    (a, b)
 
 pub returns : goal.returns
 returns c = let o = c.args.o in
