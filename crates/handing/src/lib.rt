@@ -29,16 +29,12 @@ pub struct Fragment {
 }
 
 // What goes out for finished OBUs: how many bytes; and how many padded size fields they had, those of dropped types too.
-#[derive(Clone, Copy)]
+// By default nothing.
+#[derive(Clone, Copy, Default)]
 pub struct Handed {
     pub bytes: usize,
     pub padded: usize,
 }
-
-const NOTHING: Handed = Handed {
-    bytes: 0,
-    padded: 0,
-};
 
 // Writes an OBU as it goes out: header bytes, shortest size field, payload.
 fn put_obu(o: Across, head: Head, out: &mut [u8], at: usize)
@@ -88,7 +84,7 @@ fn hand_out(
     let w = element::header_w(payload[0]);
     let mut at = cursor;
     let mut kept = joined;
-    let mut sum = NOTHING;
+    let mut sum = Handed::default();
     for i in from..to {
         let part = element::part_at(payload, at, element::has_field(w, i));
         let o = Across {
@@ -121,7 +117,7 @@ pub fn count_out(
         × (out.new ≡ out.old) }
 {
     if to <= from {
-        return Ok(NOTHING);
+        return Ok(Handed::default());
     }
     hand_out(payload, cursor, from, to, store, joined, out, false)
 }
