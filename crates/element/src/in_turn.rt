@@ -7,7 +7,7 @@ ghost use Rattle.base.specs.Answers.{paper_at};
 ghost use Rattle.element.specs.Paper.{with_part, walked};
 ghost use Rattle.element.specs.Laws.{Fielded, Countable};
 
-use crate::{Part, UNWALKED, Walked};
+use crate::{Part, Walked};
 use base::{Refusal, RefusedAt};
 
 // This part where told to, else the one kept so far: number by number, so that they stay in registers.
@@ -61,7 +61,7 @@ fn walk_to_end(payload: &[u8], k: usize) -> Result<Walked, RefusedAt>
     ensures { paper_at result ≡ walked k (counting 0 (drop 1 payload.now)) }
 {
     let mut at: usize = 1;
-    let mut all = UNWALKED;
+    let mut all = Walked::default();
     while at < payload.len() {
         let part = crate::read_element(payload, at, true)?;
         all = with_part(payload, all, k, at, part);
@@ -76,7 +76,7 @@ fn walk_counted(payload: &[u8], w: usize, k: usize) -> Result<Walked, RefusedAt>
     ensures { paper_at result ≡ walked k (counting w (drop 1 payload.now)) }
 {
     let mut at: usize = 1;
-    let mut all = UNWALKED;
+    let mut all = Walked::default();
     while all.elements < w {
         let part = crate::read_element(payload, at, all.elements + 1 != w)?;
         all = with_part(payload, all, k, at, part);

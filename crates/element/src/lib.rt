@@ -15,38 +15,23 @@ use base::{Refusal, RefusedAt};
 // The most bytes of a payload.
 pub const PAYLOAD_LIMIT: usize = 1048576;
 
-// A part of a payload: where it starts, how many bytes it has, and the cursor after it.
-#[derive(Clone, Copy)]
+// A part of a payload: where it starts, how many bytes it has, and the cursor after it. By default the empty part at its start.
+#[derive(Clone, Copy, Default)]
 pub struct Part {
     pub start: usize,
     pub length: usize,
     pub next: usize,
 }
 
-// The empty part at a payload's start.
-const NOWHERE: Part = Part {
-    start: 0,
-    length: 0,
-    next: 0,
-};
-
 // All elements: how many there are, the one asked for, and the last; where there is no such one, the empty part at the payload's start.
-// And how many of their length fields are padded.
-#[derive(Clone, Copy)]
+// And how many of their length fields are padded. By default nothing is walked.
+#[derive(Clone, Copy, Default)]
 pub struct Walked {
     pub elements: usize,
     pub kept: Part,
     pub last: Part,
     pub padded: usize,
 }
-
-// Nothing is walked.
-const UNWALKED: Walked = Walked {
-    elements: 0,
-    kept: NOWHERE,
-    last: NOWHERE,
-    padded: 0,
-};
 
 // Z, bit 7 of the header byte.
 pub fn header_z(header: u8) -> bool
@@ -138,7 +123,7 @@ pub fn part_at(payload: &[u8], at: usize, field: bool) -> Part
     if field {
         // it is read, so this never fails
         let Ok(size) = leb128::read_leb128(&payload[at..]) else {
-            return NOWHERE;
+            return Part::default();
         };
         let start = at + size.used;
         let length = size.value as usize;

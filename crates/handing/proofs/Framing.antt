@@ -15,11 +15,8 @@ use Rattle.leb128.proofs.Theorems.{size_most}
 use Rattle.obu.specs.Header.{type_of, extension_bit, header_length, marked, drops}
 use Rattle.obu.specs.Front.{Front, start_of, span_of, Seen, found, stopped, front_of}
 use Rattle.obu.specs.Wire.{extension_bytes, exactly, whole_of, framed, wire, padded_size}
-use Rattle.handing.specs.Inside.{There, handed_of, counted_one, put_at}
-use Rattle.handing.specs.Paper.{fragment_of}
-use Rattle.handing.specs.declared.Fragment.{Fragment}
+use Rattle.handing.specs.Inside.{handed_of, counted_one, put_at}
 use Rattle.handing.specs.declared.Handed.{Handed}
-use Rattle.handing.proofs.Across.{across_length}
 use Rattle.handing.proofs.Lists.{replaced_none, replaced_more}
 
 extension_length : (h e : ℕ) → length (extension_bytes h e) ≡ extension_bit h
@@ -94,13 +91,6 @@ module _ (all : List ℕ) where
   pub size_padded : (f : Front) → given f ≡ whole_of all → {n : ℕ} → n ≡ cond (is_padded f.payload f.field) 1 0 → n ≡ cond (padded_size all) 1 0
   unfolding padded_size
   size_padded f e p = rw (← e) p
-
--- its front spans the bytes across store and payload
-pub front_spans : {store payload : List ℕ} {b : Fragment} → There store payload b → {f : Front} → given f ≡ whole_of (fragment_of store payload b)
-    → (span_of f ≡ b.kept + b.size) × (span_of f ≡ length (fragment_of store payload b))
-front_spans {store} {payload} {b} t {f} e =
-    let s : span_of f ≡ length (fragment_of store payload b) = whole_spans (fragment_of store payload b) f e in
-    (s ∙ across_length store payload b.kept b.start b.size t.stored t.lies, s)
 
 -- the promise of one finished OBU
 abbrev pub Finished : List ℕ → List ℕ → ℕ → Bool → Answer Handed → List ℕ → Type 0

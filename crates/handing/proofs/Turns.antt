@@ -5,8 +5,8 @@ use native.Mathlib.Numerals.{add-one}
 use native.Mathlib.Omega.{arith}
 use mathlib.Core.List.{List, [], ◌∷◌, ◌++◌, append-nil, map}
 use mathlib.Core.Bool.{Bool, true, false, cond}
-use lib.ListN.{length, get_or, drop, length-append, length-map, get_or-map}
-use lib.Seq.{drop-cons}
+use lib.ListN.{length, get_or, take, drop, length-append, length-drop, length-map, get_or-map}
+use lib.Seq.{drop-cons, length-take-le}
 use Rattle.base.specs.Answers.{Answer, given, refused}
 use Rattle.base.specs.Lists.{replaced, front}
 use Rattle.base.proofs.Lists.{front_more}
@@ -20,7 +20,7 @@ use Rattle.element.specs.Elements.{bytes_of, nowhere, element_at, has_field}
 use Rattle.element.specs.Laws.{Lies, Stands}
 use Rattle.element.specs.declared.Part.{Part}
 use Rattle.handing.specs.Handing.{fragment_limit, before, wires, padded_sizes}
-use Rattle.handing.specs.Inside.{There, across, handed_of, both, counted, counted_all, RoomAt, put_at, put_first, parts_of, cursor_of, led, between, Finishing}
+use Rattle.handing.specs.Inside.{across, handed_of, both, counted, counted_all, RoomAt, put_at, put_first, parts_of, cursor_of, led, between, Finishing}
 use Rattle.handing.specs.declared.Handed.{Handed}
 use Rattle.handing.proofs.Wires.{before_assoc, before_none, sizes_none, sizes_next, sizes_one}
 use Rattle.handing.proofs.Cursors.{cursor_next, cursor_some, cursor_inside, payload_small, read_at, part_at}
@@ -186,15 +186,21 @@ module _ {payload store : List ℕ} {cursor from to joined : ℕ} {write : Bool}
     pub handing_size : kept + p.length < 2097152
     handing_size = let l = handing_part in omega (arith, s.small, s.cursor, payload_small payload (parts_of payload) f.whole, cursor_some payload (parts_of payload) f.whole i s.within)
 
-    pub handing_there : There store payload (record { kept = kept; start = p.start; size = p.length })
-    handing_there =
+    -- the OBU that this element finishes, as it is lent
+    abbrev obu : List ℕ
+    obu = take kept store ++ take (p.next - p.start) (drop p.start payload)
+
+    pub handing_lent :
+        (obu ≡ across store kept payload p.start p.length)
+        × (1 ≤ length (take (p.next - p.start) (drop p.start payload)))
+        × (length (take kept store) + length (take (p.next - p.start) (drop p.start payload)) < 4294967296)
+    handing_lent =
         let l = handing_part in
         let z = handing_size in
-        record { stored = s.stored; lies = omega (arith, l); some = l.some; small = omega (arith, z) }
-
-    -- the OBU that this element finishes
-    abbrev obu : List ℕ
-    obu = across store kept payload p.start p.length
+        let n : p.next - p.start ≡ p.length = omega arith in
+        let e = length-take-le (p.next - p.start) (drop p.start payload) (omega (arith, length-drop p.start payload)) in
+        let k = length-take-le kept store s.stored in
+        (ap (λ (m : ℕ). take kept store ++ take m (drop p.start payload)) n, omega arith, omega arith)
 
     all_next : wires (between store joined payload from to) ≡ before (given s.done) (before (wire obu) (wires (between store 0 payload (i + 1) to)))
     unfolding wires
@@ -202,18 +208,20 @@ module _ {payload store : List ℕ} {cursor from to joined : ℕ} {write : Bool}
         s.all
         ∙ ap (λ (os : List (List ℕ)). before (given s.done) (wires os)) (between_next store payload kept i to t.more t.some)
         ∙ ap (λ (q : Part). before (given s.done) (before (wire (across store kept payload q.start q.length)) (wires (between store 0 payload (i + 1) to)))) (sym t.here)
+        ∙ ap (λ (o : List ℕ). before (given s.done) (before (wire o) (wires (between store 0 payload (i + 1) to)))) (sym handing_lent.0)
 
     -- the padded size fields that are left
     sizes_left : padded_sizes (between store kept payload i to) ≡ cond (padded_size obu) 1 0 + padded_sizes (between store 0 payload (i + 1) to)
     sizes_left =
         ap padded_sizes (between_next store payload kept i to t.more t.some)
         ∙ ap (λ (q : Part). padded_sizes (across store kept payload q.start q.length ∷ between store 0 payload (i + 1) to)) (sym t.here)
+        ∙ ap (λ (o : List ℕ). padded_sizes (o ∷ between store 0 payload (i + 1) to)) (sym handing_lent.0)
         ∙ sizes_next obu (between store 0 payload (i + 1) to)
 
     pub handing_most : (b : List ℕ) → wire obu ≡ given b → length b ≤ kept + p.length + 3
     handing_most b e =
         let l = handing_part in
-        let n : length obu ≡ kept + p.length = across_length store payload kept p.start p.length s.stored (omega arith) in
+        let n : length obu ≡ kept + p.length = ap length handing_lent.0 ∙ across_length store payload kept p.start p.length s.stored (omega arith) in
         omega (arith, n, handing_size, wire_grows obu b (omega (arith, n, handing_size)) e)
 
     -- what it adds fits

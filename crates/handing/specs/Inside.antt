@@ -1,12 +1,11 @@
 -- What the functions that hand out ask and promise; the contract of the receive call cites none of this.
-use Rattle.std.specs.Prelude.{◌≡◌, ℕ, ◌+◌, ◌-◌, ◌≤◌, ◌<◌, List, [], ◌∷◌, ◌++◌, map, cond, length, get_or, take, drop, eqb}
+use Rattle.std.specs.Prelude.{◌≡◌, ℕ, ◌+◌, ◌-◌, ◌≤◌, List, [], ◌∷◌, ◌++◌, map, cond, length, get_or, take, drop, eqb}
 use Rattle.base.specs.Answers.{Answer, given, refused}
 use Rattle.base.specs.Lists.{replaced, front}
 use Rattle.element.specs.Elements.{nowhere, bytes_of, payload_elements}
 use Rattle.element.specs.declared.Part.{Part}
 use Rattle.obu.specs.Wire.{wire, padded_size}
 use Rattle.handing.specs.Handing.{fragment_limit, wires, padded_sizes}
-use Rattle.handing.specs.declared.Fragment.{Fragment}
 use Rattle.handing.specs.declared.Handed.{Handed}
 
 -- ---- bytes across store and payload
@@ -14,13 +13,6 @@ use Rattle.handing.specs.declared.Handed.{Handed}
 -- so many bytes of the store, and then an element of the payload
 abbrev pub across : List ℕ → ℕ → List ℕ → ℕ → ℕ → List ℕ
 across store kept payload start size = take kept store ++ take size (drop start payload)
-
--- a fragment's bytes are there, some of them in the payload, and a size field can say how many they are
-pub record There (store payload : List ℕ) (f : Fragment) : Type 0 where
-  pub stored : f.kept ≤ length store
-  pub lies : f.start + f.size ≤ length payload
-  pub some : 1 ≤ f.size
-  pub small : f.kept + f.size < 4294967296
 
 -- how many bytes go out, with so many padded size fields; and for two together
 abbrev pub handed_of : ℕ → List ℕ → Handed

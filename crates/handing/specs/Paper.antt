@@ -1,8 +1,7 @@
--- What the fragments of the code stand for.
-use Rattle.std.specs.Prelude.{ℕ, List}
-use Rattle.handing.specs.Inside.{across}
-use Rattle.handing.specs.declared.Fragment.{Fragment}
+-- What the code's values stand for.
+use Rattle.std.specs.Prelude.{ℕ, List, ◌++◌}
+use Rattle.handing.specs.declared.obu_bytes.Across.{Across}
 
--- the bytes of a fragment
-abbrev pub fragment_of : List ℕ → List ℕ → Fragment → List ℕ
-fragment_of store payload f = across store f.kept payload f.start f.size
+-- the bytes of an OBU across store and payload
+abbrev pub all_of : Across → List ℕ
+all_of o = o.stored.now ++ o.element.now

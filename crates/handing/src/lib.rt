@@ -1,22 +1,23 @@
 // OBUs that lie across store and payload (V8 to V12, F6, R18): judged, counted and handed out.
 #![tactic(auto)]
 
-ghost use Rattle.std.specs.Prelude.{◌≡◌, ◌+◌, ◌-◌, ◌≤◌, true, cond, length, take, drop};
+mod obu_bytes; // obu_bytes.rt: the bytes of an OBU
+
+ghost use Rattle.std.specs.Prelude.{◌≡◌, ◌+◌, ◌≤◌, true, cond, length, drop};
 ghost use Rattle.base.specs.Lists.{replaced};
 ghost use Rattle.base.specs.Answers.{paper};
 ghost use Rattle.obu.specs.Front.{start_of, span_of};
-ghost use Rattle.obu.specs.Wire.{whole_of, framed, wire};
-ghost use Rattle.obu.specs.Paper.{paper_head, paper_whole};
+ghost use Rattle.obu.specs.Wire.{framed, wire};
+ghost use Rattle.obu.specs.Paper.{paper_head};
 ghost use Rattle.handing.specs.Handing.{wires};
-ghost use Rattle.handing.specs.Inside.{There, counted_one, counted_all, RoomAt, put_at, put_first, between, Finishing};
-ghost use Rattle.handing.specs.Paper.{fragment_of};
+ghost use Rattle.handing.specs.Inside.{counted_one, counted_all, RoomAt, put_at, put_first, between, Finishing};
+ghost use Rattle.handing.specs.Paper.{all_of};
 
 use base::Refusal;
 use obu::Head;
+use obu_bytes::Across;
 
-// The bytes that decide an OBU's front, and the most bytes of an open fragment.
-const HEAD_BYTES: usize = 10;
-
+// The most bytes of an open fragment.
 pub const FRAGMENT_LIMIT: usize = 1048576;
 
 // Bytes across store and payload: the first `kept` of the store, then `size` of the payload from `start` on.
@@ -28,90 +29,37 @@ pub struct Fragment {
 }
 
 // What goes out for finished OBUs: how many bytes; and how many padded size fields they had, those of dropped types too.
-#[derive(Clone, Copy)]
+// By default nothing.
+#[derive(Clone, Copy, Default)]
 pub struct Handed {
     pub bytes: usize,
     pub padded: usize,
 }
 
-const NOTHING: Handed = Handed {
-    bytes: 0,
-    padded: 0,
-};
-
-// Copies a fragment, from byte `skip` of it on.
-fn copy_across(to: &mut [u8], at: usize, store: &[u8], payload: &[u8], f: Fragment, skip: usize)
-    requires { There store.now payload.now f × (skip ≤ f.kept + f.size) × (at + (f.kept + f.size - skip) ≤ length to.old) }
-    ensures { to.new ≡ replaced to.old at (drop skip (fragment_of store.now payload.now f)) }
-{
-    if skip < f.kept {
-        let next = base::copy_bytes(store, skip, f.kept - skip, to, at);
-        base::copy_bytes(payload, f.start, f.size, to, next);
-    } else {
-        let passed = skip - f.kept;
-        base::copy_bytes(payload, f.start + passed, f.size - passed, to, at);
-    }
-}
-
-// The OBU of exactly a fragment's bytes, judged by the first of them, which are put together in an array.
-fn judge_across(store: &[u8], payload: &[u8], f: Fragment) -> Result<Head, Refusal>
-    requires { There store.now payload.now f }
-    ensures { paper_whole result ≡ whole_of (fragment_of store.now payload.now f) }
-{
-    let mut head = [0u8; HEAD_BYTES];
-    let a = f.kept.min(HEAD_BYTES);
-    let b = f.size.min(HEAD_BYTES - a);
-    head[..a].copy_from_slice(&store[..a]);
-    head[a..a + b].copy_from_slice(&payload[f.start..f.start + b]);
-    obu::whole_obu(&head[..a + b], f.kept + f.size)
-}
-
-// The OBU of exactly a fragment's bytes: those of the payload alone are judged where they stand.
-fn judge(store: &[u8], payload: &[u8], f: Fragment) -> Result<Head, Refusal>
-    requires { There store.now payload.now f }
-    ensures { paper_whole result ≡ whole_of (fragment_of store.now payload.now f) }
-{
-    if f.kept == 0 {
-        return obu::whole_obu(&payload[f.start..f.start + f.size], f.size);
-    }
-    judge_across(store, payload, f)
-}
-
-// Writes a fragment that is an OBU as it goes out: header bytes, shortest size field, payload.
-fn put_obu(out: &mut [u8], at: usize, head: Head, store: &[u8], payload: &[u8], f: Fragment)
-    requires there { There store.now payload.now f × (span_of (paper_head head) ≡ f.kept + f.size) }
-    requires f_in_bounds { at + length (framed head.header head.extension (drop (start_of (paper_head head)) (fragment_of store.now payload.now f))) ≤ length out.old }
-    ensures { out.new ≡ replaced out.old at
-        (framed head.header head.extension (drop (start_of (paper_head head)) (fragment_of store.now payload.now f))) }
+// Writes an OBU as it goes out: header bytes, shortest size field, payload.
+fn put_obu(o: Across, head: Head, out: &mut [u8], at: usize)
+    requires spans { span_of (paper_head head) ≡ length (all_of o) }
+    requires fits { at + length (framed head.header head.extension (drop (start_of (paper_head head)) (all_of o))) ≤ length out.old }
+    ensures { out.new ≡ replaced out.old at (framed head.header head.extension (drop (start_of (paper_head head)) (all_of o.entry))) }
 {
     let field = obu::put_header(out, at, head.header, head.extension);
     let body = leb128::put_leb128(out, field, head.payload as u32);
-    let skip = obu::header_size(head.header) + head.field;
-    copy_across(out, body, store, payload, f, skip);
+    o.copy(obu::header_size(head.header) + head.field, out, body);
 }
 
 // One finished OBU: judged, counted, and written at the cursor `at` where told to.
-fn finish_obu(
-    store: &[u8],
-    payload: &[u8],
-    f: Fragment,
-    out: &mut [u8],
-    at: usize,
-    write: bool,
-) -> Result<Handed, Refusal>
-    requires there { There store.now payload.now f }
-    requires room_at { write ≡ true → RoomAt (length out.old) at (wire (fragment_of store.now payload.now f)) }
-    ensures { (paper result ≡ counted_one (fragment_of store.now payload.now f))
-        × (out.new ≡ cond write (put_at out.old at (wire (fragment_of store.now payload.now f))) out.old) }
+fn finish_obu(o: Across, out: &mut [u8], at: usize, write: bool) -> Result<Handed, Refusal>
+    requires { write ≡ true → RoomAt (length out.old) at (wire (all_of o)) }
+    ensures { (paper result ≡ counted_one (all_of o.entry)) × (out.new ≡ cond write (put_at out.old at (wire (all_of o.entry))) out.old) }
 {
-    let head = judge(store, payload, f)?;
+    let head = o.judge()?;
     let field = leb128::leb128_size(head.payload as u32);
     let padded = usize::from(field < head.field);
     if obu::should_ignore_obu_type(obu::obu_type(head.header)) {
         return Ok(Handed { bytes: 0, padded });
     }
     if write {
-        put_obu(out, at, head, store, payload, f);
+        put_obu(o, head, out, at);
     }
     let bytes = obu::header_size(head.header) + field + head.payload;
     Ok(Handed { bytes, padded })
@@ -136,15 +84,14 @@ fn hand_out(
     let w = element::header_w(payload[0]);
     let mut at = cursor;
     let mut kept = joined;
-    let mut sum = NOTHING;
+    let mut sum = Handed::default();
     for i in from..to {
         let part = element::part_at(payload, at, element::has_field(w, i));
-        let f = Fragment {
-            kept,
-            start: part.start,
-            size: part.length,
+        let o = Across {
+            stored: &store[..kept],
+            element: &payload[part.start..part.next],
         };
-        let one = finish_obu(store, payload, f, out, sum.bytes, write)?;
+        let one = finish_obu(o, out, sum.bytes, write)?;
         sum.bytes += one.bytes;
         sum.padded += one.padded;
         kept = 0;
@@ -170,7 +117,7 @@ pub fn count_out(
         × (out.new ≡ out.old) }
 {
     if to <= from {
-        return Ok(NOTHING);
+        return Ok(Handed::default());
     }
     hand_out(payload, cursor, from, to, store, joined, out, false)
 }

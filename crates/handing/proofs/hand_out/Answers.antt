@@ -1,9 +1,10 @@
 use mathlib.Core.Path.{refl}
+use Prim.Native.Nat.{◌≤◌}
 use native.Mathlib.Omega.{arith}
 use borrow.Author.Rules.{rules}
 use Rattle.handing.specs.Inside.{parts_of}
 use Rattle.handing.proofs.Cursors.{payload_some}
-use Rattle.handing.proofs.Turns.{handing_end, handing_stands, handing_turn, handing_there, handing_fits, handing_room, handing_broken, handing_next, counted_given, counted_refused}
+use Rattle.handing.proofs.Turns.{handing_end, handing_stands, handing_turn, handing_part, handing_lent, handing_fits, handing_room, handing_broken, handing_next, counted_given, counted_refused}
 use Rattle.handing.proofs.hand_out.Goals as goal
 
 pub bounds-payload-0 : goal.bounds-payload-0
@@ -12,13 +13,33 @@ bounds-payload-0 c = payload_some c.args.payload.now (parts_of c.args.payload.no
 pub part_at-part-requires : goal.part_at-part-requires
 part_at-part-requires c = handing_stands c.loop-i.invariant c.requires.finishing c.loop-i-test.true c.header_w-w.ensures c.has_field.ensures
 
-pub finish_obu-requires-clause-there : goal.finish_obu-requires-clause-there
-finish_obu-requires-clause-there c =
+pub slice_bounds-o-count : goal.slice_bounds-o-count
+slice_bounds-o-count c =
     let t = handing_turn c.loop-i.invariant c.requires.finishing c.loop-i-test.true c.header_w-w.ensures c.has_field.ensures c.part_at-part.ensures in
-    handing_there c.loop-i.invariant c.requires.finishing t
+    let l = handing_part c.loop-i.invariant c.requires.finishing t in
+    omega arith
 
-pub finish_obu-requires-clause-room_at : goal.finish_obu-requires-clause-room_at
-finish_obu-requires-clause-room_at c =
+pub slice_bounds-o-start : goal.slice_bounds-o-start
+slice_bounds-o-start c =
+    let t = handing_turn c.loop-i.invariant c.requires.finishing c.loop-i-test.true c.header_w-w.ensures c.has_field.ensures c.part_at-part.ensures in
+    let l = handing_part c.loop-i.invariant c.requires.finishing t in
+    let h : c.part_at-part.result.start ≤ c.part_at-part.result.next = omega arith in
+    h
+
+pub slice_bounds-o-end-in-loop-i : goal.slice_bounds-o-end-in-loop-i
+slice_bounds-o-end-in-loop-i c =
+    let t = handing_turn c.loop-i.invariant c.requires.finishing c.loop-i-test.true c.header_w-w.ensures c.has_field.ensures c.part_at-part.ensures in
+    let l = handing_part c.loop-i.invariant c.requires.finishing t in
+    l.within
+
+pub invariant_of-o : goal.invariant_of-o
+invariant_of-o c =
+    let t = handing_turn c.loop-i.invariant c.requires.finishing c.loop-i-test.true c.header_w-w.ensures c.has_field.ensures c.part_at-part.ensures in
+    let h = handing_lent c.loop-i.invariant c.requires.finishing t in
+    record { some = h.1; small = h.2 }
+
+pub finish_obu-requires : goal.finish_obu-requires
+finish_obu-requires c =
     let t = handing_turn c.loop-i.invariant c.requires.finishing c.loop-i-test.true c.header_w-w.ensures c.has_field.ensures c.part_at-part.ensures in
     handing_room c.loop-i.invariant c.requires.finishing t c.requires.room_at
 

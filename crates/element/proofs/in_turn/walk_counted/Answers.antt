@@ -7,11 +7,13 @@ use lib.ListN.{length, drop}
 use Rattle.base.specs.Answers.{given, paper_at}
 use Rattle.element.specs.Elements.{element_at, is_due, has_field}
 use Rattle.element.proofs.Laws.{part_lies}
-use Rattle.element.proofs.Walking.{walking_first, walking_countable, walking_bad, walking_next, walking_end, due_counted, due_no_more}
+use Rattle.element.proofs.Walking.{unwalked, walking_first, walking_countable, walking_bad, walking_next, walking_end, due_counted, due_no_more}
 use Rattle.element.proofs.in_turn.walk_counted.Goals as goal
 
 pub loop-all-init : goal.loop-all-init
-loop-all-init c = walking_first c.args.payload.now c.args.w c.args.k c.requires.0 (due_counted c.args.w 0 (length c.args.payload.now - 1) c.requires.2 c.requires.2)
+loop-all-init c =
+    let e : c.default-all.result ≡ unwalked = search rules in rw e
+    (walking_first c.args.payload.now c.args.w c.args.k c.requires.0 (due_counted c.args.w 0 (length c.args.payload.now - 1) c.requires.2 c.requires.2))
 
 pub returns-in_err-part : goal.returns-in_err-part
 returns-in_err-part c =

@@ -8,12 +8,12 @@ use borrow.Author.Tests.{lt-ltb, le-ltb}
 use Rattle.base.specs.Answers.{given, paper_at}
 use Rattle.element.specs.Elements.{element_at, is_due, has_field}
 use Rattle.element.proofs.Laws.{part_lies}
-use Rattle.element.proofs.Walking.{walking_first, walking_countable, walking_bad, walking_next, walking_end, always_field}
+use Rattle.element.proofs.Walking.{unwalked, walking_first, walking_countable, walking_bad, walking_next, walking_end, always_field}
 use Rattle.element.proofs.in_turn.walk_to_end.Goals as goal
 
 pub loop-at-init : goal.loop-at-init
 loop-at-init c = let l = c.args.payload.now in
-    walking_first l 0 c.args.k (omega (arith, c.requires.0)) (lt-ltb 0 (length l - 1) (omega (arith, c.requires.0)))
+    let e : c.default-all.result ≡ unwalked = search rules in rw e (walking_first l 0 c.args.k (omega (arith, c.requires.0)) (lt-ltb 0 (length l - 1) (omega (arith, c.requires.0))))
 
 pub returns-in_err-part : goal.returns-in_err-part
 returns-in_err-part c =
