@@ -125,7 +125,7 @@ pub fn read_fields(bytes: &[u8], width: usize) -> Result<Option<RecordFields>, R
 }
 
 // The record that begins at `at`, in a train with length fields of this width. Any width but 4 counts as 2.
-#[tactic(auto, using(crate::proofs::Reading::at_end, crate::proofs::Reading::at_stated, crate::proofs::Reading::at_fields, crate::proofs::Reading::at_whole), unfolding(crate::specs::Train::held_by))]
+#[tactic(auto, using(crate::proofs::Reading::at_stated, crate::proofs::Reading::at_whole), unfolding(crate::specs::Train::held_by, crate::specs::Train::fields_of))]
 pub fn read_record(bytes: &[u8], width: usize, at: usize) -> Result<Option<RecordHead>, Refusal>
     ensures { paper_record result ≡ front_of (counted_width width) at (drop at bytes.now) }
 {
