@@ -16,6 +16,7 @@ use handing::Fragment;
 const FURTHEST_AHEAD: u16 = 32767;
 
 // Whether something was taken, the last number taken, and how many bytes of the store are the open fragment.
+// Three plain fields, as the C interface has them: `receive` answers for each state that three words can make.
 #[derive(Clone, Copy)]
 pub struct State {
     pub begun: bool,
