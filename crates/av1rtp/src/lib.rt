@@ -22,6 +22,7 @@ use base::RefusedAt;
 use receiver::State;
 
 // What was asked for: success, and up to three numbers.
+// Each export matches on its answer: mapped by a closure into three words for one function, it leaves its promise to be proved by hand.
 fn give(answer: &mut [usize; 4], a: usize, b: usize, c: usize) -> u32
     ensures { (result ≡ 0) × (answer.new ≡ 0 ∷ a ∷ b ∷ c ∷ []) }
 {
@@ -122,7 +123,7 @@ pub extern "C" fn av1rtp_header(
         × (answer.new ≡ words_in one (header_of unit.now (obus_in obus.now) (packets_in plan.now) k)) }
 {
     match aggregation::get_aggregation_header(unit, obus, plan, k) {
-        Ok(header) => give(answer, header as usize, 0, 0),
+        Ok(header) => give(answer, usize::from(header), 0, 0),
         Err(refusal) => refuse(answer, refusal.into()),
     }
 }
@@ -144,9 +145,10 @@ pub extern "C" fn av1rtp_element(payload: &[u8], k: usize, answer: &mut [usize; 
 }
 
 // The state that three words stand for.
-fn state_in(begun: usize, last: usize, open: usize) -> State
-    ensures { result ≡ state_in (begun ∷ last ∷ «open» ∷ []) }
+fn state_in(words: [usize; 3]) -> State
+    ensures { result ≡ state_in words }
 {
+    let [begun, last, open] = words;
     State {
         begun: begun > 0,
         last: (last & 65535) as u16,
@@ -155,10 +157,14 @@ fn state_in(begun: usize, last: usize, open: usize) -> State
 }
 
 // A state in three words.
-fn put_state(words: &mut [usize; 3], state: State)
-    ensures { words.new ≡ state_words state }
+fn state_words(state: State) -> [usize; 3]
+    ensures { result ≡ state_words state }
 {
-    *words = [state.begun as usize, state.last as usize, state.open];
+    [
+        usize::from(state.begun),
+        usize::from(state.last),
+        state.open,
+    ]
 }
 
 // One packet received. Words: 0, the bytes handed out, its padded fields.
@@ -174,11 +180,9 @@ pub extern "C" fn av1rtp_receive(
     ensures { Crosses (received (inputs (state_in state.old) number payload.now store.old out.old)) state.old
         result answer.new state.new store.new out.new }
 {
-    let before = state_in(state[0], state[1], state[2]);
-    match receiver::receive(before, number, payload, store, out) {
+    match receiver::receive(state_in(*state), number, payload, store, out) {
         Ok(received) => {
-            let after = received.state;
-            put_state(state, after);
+            *state = state_words(received.state);
             let padded = received.padded;
             give(answer, received.bytes, padded.lengths + padded.sizes, 0)
         }
@@ -192,7 +196,7 @@ pub extern "C" fn av1rtp_train_head(bytes: &[u8], answer: &mut [usize; 4]) -> u3
     ensures { (result ≡ number_in (head_of bytes.now)) × (answer.new ≡ words_in head_words (head_of bytes.now)) }
 {
     match train::read_head(bytes) {
-        Ok(head) => give(answer, head.version as usize, head.width, 0),
+        Ok(head) => give(answer, usize::from(head.version), head.width, 0),
         Err(refusal) => refuse(answer, refusal.into()),
     }
 }
@@ -210,7 +214,7 @@ pub extern "C" fn av1rtp_train_record(
         × (answer.new ≡ words_in record_words (record_answer (front_of (counted_width width) at (drop at bytes.now)))) }
 {
     match train::read_record(bytes, width, at) {
-        Ok(Some(head)) => give(answer, head.number as usize, head.start, head.length),
+        Ok(Some(head)) => give(answer, usize::from(head.number), head.start, head.length),
         Ok(None) => give(answer, 0, 0, 0),
         Err(refusal) => refuse(answer, refusal.into()),
     }
@@ -241,7 +245,7 @@ pub extern "C" fn av1rtp_size_field(bytes: &[u8], answer: &mut [usize; 4]) -> u3
             answer,
             field.value as usize,
             field.used,
-            field.shortest as usize,
+            usize::from(field.shortest),
         ),
         Err(refusal) => refuse(answer, refusal.into()),
     }

@@ -1,17 +1,15 @@
 -- The receive call's definition, by the tests that the code makes. Assumes nothing.
-use Rattle.std.proofs.Common.{◌≡◌, ℕ, ◌<◌, ◌≤◌, Bool, true, false, cond, ◌||◌, ltb, List, length, refl, ap, ◌∙◌, arith, ltb-false, le-ltb, lt-ltb, eq-eqb, ne_eqb}
-use Rattle.base.specs.Answers.{Answer, given, refused}
-use Rattle.element.specs.Elements.{payload_elements, payload_limit}
-use Rattle.element.specs.Paper.{walked_of, walked}
-use Rattle.element.specs.declared.Part.{Part}
+use Rattle.std.proofs.Common.{◌≡◌, ℕ, ◌≤◌, Bool, true, false, cond, ◌||◌, ltb, List, length, refl, ◌∙◌, arith, ltb-false, le-ltb, ne_eqb}
+use Rattle.base.specs.Answers.{refused}
+use Rattle.element.specs.Elements.{payload_limit}
 use Rattle.element.specs.declared.Walked.{Walked}
 use Rattle.handing.specs.Handing.{fragment_limit}
-use Rattle.handing.specs.Inside.{parts_by, parts_of}
+use Rattle.handing.specs.Inside.{parts_of}
 use Rattle.handing.proofs.Cursors.{payload_some, payload_small}
-use Rattle.receiver.specs.Packet.{packet_by, packet_of}
+use Rattle.receiver.specs.Packet.{packet_of}
 use Rattle.receiver.specs.Joining.{is_ahead}
 use Rattle.receiver.specs.Call.{too_long, opened, taken, held_in, Inputs, outcome, leaves, received}
-use Rattle.receiver.specs.Inside.{Read, Opened}
+use Rattle.receiver.specs.Inside.{Opened}
 
 -- ---- so many open bytes
 

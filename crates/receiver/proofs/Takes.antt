@@ -19,7 +19,7 @@ use Rattle.handing.proofs.Cursors.{elements_some}
 use Rattle.receiver.specs.Packet.{Packet, packet_by}
 use Rattle.receiver.specs.Joining.{Held, holding, follows, joinable, with_fragment, lost, finished, left, handed, kept_open, next, out}
 use Rattle.receiver.specs.Call.{Taken, too_long, fitted, padded_in, wired, opened, last_of, held_in, state_by, Inputs, outcome, After, leaves, received}
-use Rattle.receiver.specs.Inside.{kept_bytes, thrown, finished_end, left_open, IsCut, Opened}
+use Rattle.receiver.specs.Inside.{IsCut, Opened}
 use Rattle.receiver.specs.declared.Cut.{Cut}
 use Rattle.receiver.specs.declared.Received.{Received}
 use Rattle.receiver.proofs.Opens.{LeftOpen, left_is, read_count, read_first, joined_is, lost_is, finished_is}

@@ -1,10 +1,10 @@
 // The receiver (V1 to V18): one packet taken, its finished OBUs handed out, the fragment that it leaves open kept in the store.
 #![tactic(auto)]
 
-ghost use Rattle.std.specs.Prelude.{◌≡◌, ◌≤◌, if◌then◌else◌, nat_eq};
+ghost use Rattle.std.specs.Prelude.{◌≡◌, ◌≤◌, nat_eq};
 ghost use Rattle.receiver.specs.Joining.{distance, is_ahead, is_in_step, label};
 ghost use Rattle.receiver.specs.Call.{too_long, inputs, leaves, received};
-ghost use Rattle.receiver.specs.Inside.{kept_bytes, thrown, finished_end, left_open, IsCut, Opened};
+ghost use Rattle.receiver.specs.Inside.{kept_bytes, left_open, IsCut, Opened};
 ghost use Rattle.element.specs.Header.{z_bit, y_bit};
 ghost use Rattle.base.specs.Answers.{paper};
 
@@ -16,6 +16,7 @@ use handing::Fragment;
 const FURTHEST_AHEAD: u16 = 32767;
 
 // Whether something was taken, the last number taken, and how many bytes of the store are the open fragment.
+// Three plain fields, as the C interface has them: `receive` answers for each state that three words can make.
 #[derive(Clone, Copy)]
 pub struct State {
     pub begun: bool,

@@ -154,3 +154,6 @@ module _ (w : ℕ) (bytes : List ℕ) (at : ℕ) where
         ap (λ (i : ℕ). holds (head_at i at f)) c
         ∙ held_whole w at (drop at bytes) f (omega (arith, at_stated e, length-drop at bytes))
         ∙ at_fields e
+
+-- what a record that begins at `at` is found by
+pub ruleset record_at = (at_end, at_fields, at_stated, at_whole)

@@ -31,6 +31,7 @@ const LEAST_STATED: usize = 3;
 pub const FIELDS_MOST: usize = LONG_WIDTH + NUMBER_WIDTH;
 
 // A train's head: its version, and the width of its length fields.
+// Both stay numbers: they cross the C interface, where any width may come, and all but 4 count as 2.
 #[derive(Clone, Copy)]
 pub struct TrainHead {
     pub version: u8,
@@ -125,7 +126,7 @@ pub fn read_fields(bytes: &[u8], width: usize) -> Result<Option<RecordFields>, R
 }
 
 // The record that begins at `at`, in a train with length fields of this width. Any width but 4 counts as 2.
-#[tactic(auto, using(crate::proofs::Reading::at_end, crate::proofs::Reading::at_stated, crate::proofs::Reading::at_fields, crate::proofs::Reading::at_whole), unfolding(crate::specs::Train::held_by))]
+#[tactic(auto, using(crate::proofs::Reading::record_at), unfolding(crate::specs::Train::held_by))]
 pub fn read_record(bytes: &[u8], width: usize, at: usize) -> Result<Option<RecordHead>, Refusal>
     ensures { paper_record result ≡ front_of (counted_width width) at (drop at bytes.now) }
 {
