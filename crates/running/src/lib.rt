@@ -10,13 +10,12 @@ ghost use Rattle.std.specs.Prelude.{◌≡◌, ◌≢◌, ◌<◌, take, length,
 ghost use Rattle.std.specs.Io.{ReadsAtMost, WritesAtMost};
 ghost use Rattle.std.specs.IoError.{error_kind};
 ghost use Rattle.std.specs.Io.KnownBytes.{Appends, Consumes, IsAtEnd, Keeps};
-ghost use Rattle.turns.specs.Text.{line_bytes};
 ghost use Rattle.turns.specs.Orders.{CameWithin, Within};
 ghost use Rattle.running.specs.Streams.{Arrived, FrontWritten, Written};
 
 use std::io;
 use std::io::{ErrorKind, Read, Stderr, Stdin, Stdout, Write};
-use turns::{Came, Failure, Order};
+use turns::{Came, Failure, LINE_BYTES, Order};
 
 // What a program reads from, and where it writes its bytes and says its lines.
 #[derive(Drop)]
@@ -35,6 +34,32 @@ pub fn standard(rt: &HostRuntime) -> Streams<Stdin, Stdout, Stderr> {
     }
 }
 
+// A program as its run stands: what it ordered last, and what its steps are lent.
+trait Program {
+    // the order can be carried out, and the next step can start
+    ghost can_go: { Self → Type 0 };
+
+    // There is more to do.
+    fn goes_on(&self) -> bool;
+
+    // One turn: the order carried out, and the next step.
+    fn next<R: Read, W: Write, E: Write>(&mut self, streams: &mut Streams<R, W, E>)
+        requires { can_go self.old }
+        ensures { can_go self.new };
+}
+
+// All turns. Nothing says that the input ends, so they are counted, up to a number that no run uses up.
+fn run_all<P: Program, R: Read, W: Write, E: Write>(program: &mut P, streams: &mut Streams<R, W, E>)
+    requires { P.can_go program.old }
+{
+    for _ in 0..u64::MAX {
+        if !program.goes_on() {
+            return;
+        }
+        program.next(streams);
+    }
+}
+
 // One read; an interrupted one is tried again.
 fn read_once<R: Read>(from: &mut R, input: &mut [u8]) -> io::Result<usize>
     ensures within { ReadsAtMost result input.new }
@@ -45,12 +70,8 @@ fn read_once<R: Read>(from: &mut R, input: &mut [u8]) -> io::Result<usize>
 {
     for _ in 0..u64::MAX {
         match from.read(input) {
-            Ok(count) => return Ok(count),
-            Err(error) => {
-                if error.kind() != ErrorKind::Interrupted {
-                    return Err(error);
-                }
-            }
+            Err(error) if error.kind() == ErrorKind::Interrupted => {}
+            other => return other,
         }
     }
     Err(io::Error::new(ErrorKind::TimedOut, "interrupted each time"))
@@ -65,12 +86,8 @@ fn write_once<W: Write>(to: &mut W, bytes: &[u8]) -> io::Result<usize>
 {
     for _ in 0..u64::MAX {
         match to.write(bytes) {
-            Ok(count) => return Ok(count),
-            Err(error) => {
-                if error.kind() != ErrorKind::Interrupted {
-                    return Err(error);
-                }
-            }
+            Err(error) if error.kind() == ErrorKind::Interrupted => {}
+            other => return other,
         }
     }
     Err(io::Error::new(ErrorKind::TimedOut, "interrupted each time"))
@@ -113,25 +130,22 @@ fn obey<R: Read, W: Write, E: Write>(
     streams: &mut Streams<R, W, E>,
     input: &mut [u8],
     out: &[u8],
-    line: &[u8],
+    line: &[u8; LINE_BYTES],
 ) -> Came
-    requires { Within order (length input.old) (length out.now) × (length line.now ≡ line_bytes) }
+    requires { Within order (length input.old) (length out.now) }
     ensures within { CameWithin result (length input.old) }
     ensures still { order.read ≡ 0 → input.new ≡ input.old }
     ensures written { Written result (W.contents streams.old.to) (W.contents streams.new.to) (take order.write out.now) }
     ensures said { FrontWritten (E.contents streams.old.errors) (E.contents streams.new.errors) (take order.say line.now) }
     ensures arrived { Arrived result (R.remaining streams.old.from) (R.remaining streams.new.from) input.new order.read }
 {
-    let write = order.write;
-    let say = order.say;
-    let read = order.read;
-    let written = write_all(&mut streams.to, &out[..write]);
-    write_all(&mut streams.errors, &line[..say]);
+    let written = write_all(&mut streams.to, &out[..order.write]);
+    write_all(&mut streams.errors, &line[..order.say]);
     if !written {
         return Err(Failure::Write);
     }
-    if read == 0 {
+    if order.read == 0 {
         return Ok(0);
     }
-    read_all(&mut streams.from, &mut input[..read])
+    read_all(&mut streams.from, &mut input[..order.read])
 }

@@ -1,7 +1,7 @@
 // The loop of `padded` (G14, G17). It begins as that of `pack` does, and has its stores.
 ghost use Rattle.packing.specs.Steps.{Goes};
 
-use crate::Streams;
+use crate::{Program, Streams};
 use packing::Turn;
 use std::io::{Read, Write};
 
@@ -16,42 +16,52 @@ const WRITTEN: usize = packing::RECORD_BYTES;
 
 const LINE: usize = turns::LINE_BYTES;
 
-// One turn: the order carried out, and the next step.
-fn next<R: Read, W: Write, E: Write>(
+// The run, and what its steps are lent.
+#[derive(Drop)]
+struct Padded {
     turn: Turn,
-    streams: &mut Streams<R, W, E>,
-    input: &mut [u8; INPUT],
-    obus: &mut [u32; OBUS],
-    plan: &mut [u32; PLAN],
-    written: &mut [u8; WRITTEN],
-    line: &mut [u8; LINE],
-) -> Turn
-    requires { Goes turn input.old obus.old plan.old }
-    ensures { Goes result input.new obus.new plan.new }
-{
-    let came = crate::obey(turn.order, streams, input, written, line);
-    padding::step(turn.place, came, input, obus, plan, written, line)
+    input: [u8; INPUT],
+    obus: [u32; OBUS],
+    plan: [u32; PLAN],
+    written: [u8; WRITTEN],
+    line: [u8; LINE],
 }
 
-// All turns. Nothing says that the input ends, so they are counted down from a number that no run uses up.
-pub fn run<R: Read, W: Write, E: Write>(streams: &mut Streams<R, W, E>) {
-    let mut input = [0u8; INPUT];
-    let mut obus = [0u32; OBUS];
-    let mut plan = [0u32; PLAN];
-    let mut written = [0u8; WRITTEN];
-    let mut line = [0u8; LINE];
-    let mut turn = packing::start();
-    let mut left = u64::MAX;
-    while left > 0 && turn.order.more {
-        turn = next(
-            turn,
-            streams,
-            &mut input,
-            &mut obus,
-            &mut plan,
-            &mut written,
-            &mut line,
-        );
-        left -= 1;
+impl Program for Padded {
+    ghost can_go = { λ s. Goes s.turn s.input s.obus s.plan };
+
+    fn goes_on(&self) -> bool {
+        self.turn.order.more
     }
+
+    fn next<R: Read, W: Write, E: Write>(&mut self, streams: &mut Streams<R, W, E>) {
+        let came = crate::obey(
+            self.turn.order,
+            streams,
+            &mut self.input,
+            &self.written,
+            &self.line,
+        );
+        self.turn = padding::step(
+            self.turn.place,
+            came,
+            &self.input,
+            &mut self.obus,
+            &mut self.plan,
+            &mut self.written,
+            &mut self.line,
+        );
+    }
+}
+
+pub fn run<R: Read, W: Write, E: Write>(streams: &mut Streams<R, W, E>) {
+    let mut program = Padded {
+        turn: packing::start(),
+        input: [0; INPUT],
+        obus: [0; OBUS],
+        plan: [0; PLAN],
+        written: [0; WRITTEN],
+        line: [0; LINE],
+    };
+    crate::run_all(&mut program, streams);
 }

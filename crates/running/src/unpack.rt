@@ -1,7 +1,7 @@
 // The loop of `unpack` (G5 to G7, G14, G15).
 ghost use Rattle.unpacking.specs.Steps.{Goes};
 
-use crate::Streams;
+use crate::{Program, Streams};
 use std::io::{Read, Write};
 use unpacking::Turn;
 
@@ -14,32 +14,49 @@ const OUT: usize = unpacking::OUTPUT_BYTES;
 
 const LINE: usize = turns::LINE_BYTES;
 
-// One turn: the order carried out, and the next step.
-fn next<R: Read, W: Write, E: Write>(
+// The run, and what its steps are lent.
+#[derive(Drop)]
+struct Unpack {
     turn: Turn,
-    streams: &mut Streams<R, W, E>,
-    input: &mut [u8; INPUT],
-    store: &mut [u8; STORE],
-    out: &mut [u8; OUT],
-    line: &mut [u8; LINE],
-) -> Turn
-    requires { Goes turn }
-    ensures { Goes result }
-{
-    let came = crate::obey(turn.order, streams, input, out, line);
-    unpacking::step(turn.place, came, input, store, out, line)
+    input: [u8; INPUT],
+    store: [u8; STORE],
+    out: [u8; OUT],
+    line: [u8; LINE],
 }
 
-// All turns. Nothing says that the input ends, so they are counted down from a number that no run uses up.
-pub fn run<R: Read, W: Write, E: Write>(streams: &mut Streams<R, W, E>) {
-    let mut input = [0u8; INPUT];
-    let mut store = [0u8; STORE];
-    let mut out = [0u8; OUT];
-    let mut line = [0u8; LINE];
-    let mut turn = unpacking::start();
-    let mut left = u64::MAX;
-    while left > 0 && turn.order.more {
-        turn = next(turn, streams, &mut input, &mut store, &mut out, &mut line);
-        left -= 1;
+impl Program for Unpack {
+    ghost can_go = { λ s. Goes s.turn };
+
+    fn goes_on(&self) -> bool {
+        self.turn.order.more
     }
+
+    fn next<R: Read, W: Write, E: Write>(&mut self, streams: &mut Streams<R, W, E>) {
+        let came = crate::obey(
+            self.turn.order,
+            streams,
+            &mut self.input,
+            &self.out,
+            &self.line,
+        );
+        self.turn = unpacking::step(
+            self.turn.place,
+            came,
+            &self.input,
+            &mut self.store,
+            &mut self.out,
+            &mut self.line,
+        );
+    }
+}
+
+pub fn run<R: Read, W: Write, E: Write>(streams: &mut Streams<R, W, E>) {
+    let mut program = Unpack {
+        turn: unpacking::start(),
+        input: [0; INPUT],
+        store: [0; STORE],
+        out: [0; OUT],
+        line: [0; LINE],
+    };
+    crate::run_all(&mut program, streams);
 }

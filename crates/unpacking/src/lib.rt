@@ -59,29 +59,17 @@ pub type Turn = turns::Turn<Place>;
 fn awaiting(place: Place, wait: Wait) -> Place
     ensures { result ≡ awaits place wait }
 {
-    let state = place.state;
-    let losses = place.losses;
-    Place {
-        wait: wait,
-        count: place.count,
-        width: place.width,
-        state: state,
-        losses: losses,
-    }
+    Place { wait, ..place }
 }
 
 // The first record of a train with length fields of this width.
 fn beginning(place: Place, width: usize) -> Place
     ensures { result ≡ first place width }
 {
-    let state = place.state;
-    let losses = place.losses;
     Place {
         wait: Wait::Fields,
-        count: place.count,
-        width: width,
-        state: state,
-        losses: losses,
+        width,
+        ..place
     }
 }
 
@@ -92,9 +80,9 @@ fn following(place: Place, state: State, losses: Losses) -> Place
     Place {
         wait: Wait::Fields,
         count: turns::next_count(place.count),
-        width: place.width,
-        state: state,
-        losses: losses,
+        state,
+        losses,
+        ..place
     }
 }
 
@@ -102,15 +90,13 @@ fn following(place: Place, state: State, losses: Losses) -> Place
 pub fn start() -> Turn
     ensures { Gives starts_with result [] [] }
 {
-    let state = receiver::FRESH;
-    let losses = losses::none();
     Turn {
         place: Place {
             wait: Wait::Version,
             count: 0,
             width: 0,
-            state: state,
-            losses: losses,
+            state: receiver::FRESH,
+            losses: losses::NONE,
         },
         order: turns::ask(0, VERSION_BYTES),
     }
@@ -121,8 +107,7 @@ fn close(place: Place, line: &mut [u8; LINE_BYTES]) -> Turn
     requires { Possible place }
     ensures { Gives (close_told place) result line.old line.new }
 {
-    let state = place.state;
-    let lost = losses::with_open(place.losses, state.open);
+    let lost = losses::with_open(place.losses, place.state.open);
     let last = awaiting(place, Wait::Nothing);
     if losses::is_none(lost) {
         return Turn {
@@ -163,13 +148,10 @@ fn version_step(place: Place, got: &[u8], line: &mut [u8; LINE_BYTES]) -> Turn
     ensures { Gives (version_told place (head_of got.now)) result line.old line.new }
 {
     match train::read_head(got) {
-        Ok(head) => {
-            let width = head.width;
-            Turn {
-                place: beginning(place, width),
-                order: turns::ask(0, width + train::NUMBER_WIDTH),
-            }
-        }
+        Ok(head) => Turn {
+            place: beginning(place, head.width),
+            order: turns::ask(0, head.width + train::NUMBER_WIDTH),
+        },
         Err(refusal) => {
             let word = Word::Refused(base::number(refusal));
             say(place, Wait::Close, Subject::Train, word, line)
@@ -185,17 +167,13 @@ fn fields_step(place: Place, got: &[u8], line: &mut [u8; LINE_BYTES]) -> Turn
     match train::read_fields(got, place.width) {
         Ok(None) => close(place, line),
         Err(refusal) => stop_at(place, refusal, line),
-        Ok(Some(fields)) => {
-            let length = fields.length;
-            if PAYLOAD_BYTES < length {
-                passing::read_away(place, length)
-            } else {
-                Turn {
-                    place: awaiting(place, Wait::Payload(fields)),
-                    order: turns::ask(0, length),
-                }
-            }
+        Ok(Some(fields)) if PAYLOAD_BYTES < fields.length => {
+            passing::read_away(place, fields.length)
         }
+        Ok(Some(fields)) => Turn {
+            place: awaiting(place, Wait::Payload(fields)),
+            order: turns::ask(0, fields.length),
+        },
     }
 }
 
@@ -212,15 +190,13 @@ fn payload_step(
     ensures { Comes (answering (payload_told place) (step_of place.state fields got.now store.old out.old))
         result line.old line.new store.new out.new }
 {
-    let state = place.state;
-    match records::unpack_record(state, fields, got, store, out) {
+    match records::unpack_record(place.state, fields, got, store, out) {
         Err(RecordFault::Broken(refusal)) => stop_at(place, refusal, line),
         Err(RecordFault::PassedOver(refusal)) => passing::pass_over(place, refusal, line),
         Ok(taken) => {
-            let after = taken.state;
             let lost = losses::with_taken(place.losses, taken.fragment_lost, taken.element_lost);
             Turn {
-                place: following(place, after, lost),
+                place: following(place, taken.state, lost),
                 order: turns::ask(taken.bytes, place.width + train::NUMBER_WIDTH),
             }
         }
@@ -233,11 +209,7 @@ fn read_subject(wait: Wait, k: u64) -> Subject
 {
     match wait {
         Wait::Version => Subject::Train,
-        Wait::Fields => Subject::Record(k),
-        Wait::Payload(_) => Subject::Record(k),
-        Wait::Away(_) => Subject::Record(k),
-        Wait::Close => Subject::Record(k),
-        Wait::Nothing => Subject::Record(k),
+        _ => Subject::Record(k),
     }
 }
 
@@ -267,25 +239,23 @@ pub fn step(
     ensures { Comes (stepped place (arrival came input.now) store.old out.old)
         result line.old line.new store.new out.new }
 {
-    let wait = place.wait;
-    let count = place.count;
     match came {
         Err(Failure::Read) => {
-            let about = read_subject(wait, count);
+            let about = read_subject(place.wait, place.count);
             say(place, Wait::Nothing, about, Word::ReadFailed, line)
         }
         Err(Failure::Write) => {
-            let about = written_subject(count);
+            let about = written_subject(place.count);
             say(place, Wait::Nothing, about, Word::WriteFailed, line)
         }
-        Ok(n) => match wait {
+        Ok(n) => match place.wait {
             Wait::Version => version_step(place, &input[..n], line),
             Wait::Fields => fields_step(place, &input[..n], line),
             Wait::Payload(fields) => { payload_step(place, fields, &input[..n], store, out, line) }
             Wait::Away(left) => passing::away_step(place, left, &input[..n], line),
             Wait::Close => close(place, line),
             Wait::Nothing => Turn {
-                place: place,
+                place,
                 order: turns::over(),
             },
         },

@@ -1,7 +1,7 @@
 // What `unpack` lost, and the line that says so (G15).
 ghost use Rattle.std.specs.Prelude.{◌≡◌, length};
 ghost use Rattle.base.specs.Lists.{front};
-ghost use Rattle.unpacking.specs.Unpack.{no_losses, counted_if, with_taken, with_passed, with_open, is_none, losses_line};
+ghost use Rattle.unpacking.specs.Unpack.{counted_if, with_taken, with_passed, with_open, is_none, losses_line};
 
 use turns::LINE_BYTES;
 
@@ -13,15 +13,11 @@ pub struct Losses {
     pub elements: u64,
 }
 
-pub fn none() -> Losses
-    ensures { result ≡ no_losses }
-{
-    Losses {
-        packets: 0,
-        fragments: 0,
-        elements: 0,
-    }
-}
+pub const NONE: Losses = Losses {
+    packets: 0,
+    fragments: 0,
+    elements: 0,
+};
 
 // One more, if it is so.
 fn counted_if(so: bool, k: u64) -> u64
@@ -36,8 +32,7 @@ pub fn with_passed(before: Losses) -> Losses
 {
     Losses {
         packets: turns::next_count(before.packets),
-        fragments: before.fragments,
-        elements: before.elements,
+        ..before
     }
 }
 
@@ -46,9 +41,9 @@ pub fn with_taken(before: Losses, fragment: bool, element: bool) -> Losses
     ensures { result ≡ with_taken before (record { fragment = fragment; element = element }) }
 {
     Losses {
-        packets: before.packets,
         fragments: counted_if(fragment, before.fragments),
         elements: counted_if(element, before.elements),
+        ..before
     }
 }
 
@@ -63,12 +58,7 @@ pub fn with_open(before: Losses, bytes: usize) -> Losses
 pub fn is_none(losses: Losses) -> bool
     ensures { result ≡ is_none losses }
 {
-    if losses.packets == 0 {
-        if losses.fragments == 0 {
-            return losses.elements == 0;
-        }
-    }
-    false
+    losses.packets == 0 && losses.fragments == 0 && losses.elements == 0
 }
 
 // The line at the front of the bytes lent, and how many it has.

@@ -13,12 +13,11 @@ pub fn pass_over(place: Place, refusal: Refusal, line: &mut [u8; LINE_BYTES]) ->
     requires { Possible place }
     ensures { Gives (passed_told place (number_of refusal)) result line.old line.new }
 {
-    let state = place.state;
     let lost = crate::losses::with_passed(place.losses);
     let word = Word::Refused(base::number(refusal));
     let read = place.width + train::NUMBER_WIDTH;
     Turn {
-        place: crate::following(place, state, lost),
+        place: crate::following(place, place.state, lost),
         order: turns::say(Subject::Record(place.count), word, read, line),
     }
 }
@@ -27,11 +26,7 @@ pub fn pass_over(place: Place, refusal: Refusal, line: &mut [u8; LINE_BYTES]) ->
 fn at_once(left: usize) -> usize
     ensures { result ≡ at_once left }
 {
-    if crate::PAYLOAD_BYTES < left {
-        crate::PAYLOAD_BYTES
-    } else {
-        left
-    }
+    left.min(crate::PAYLOAD_BYTES)
 }
 
 // So many bytes are left of a payload over the store: the next of them are read.

@@ -26,12 +26,10 @@ pub fn unpack_record(
     ensures { leaves (paper_step result) store.new out.new
         ≡ answering answered (step_of state fields payload.now store.old out.old) }
 {
-    let number = fields.number;
-    let length = fields.length;
-    if payload.len() < length {
+    let Some(packet) = payload.get(..fields.length) else {
         return Err(RecordFault::Broken(Refusal::TrainCut));
-    }
-    match receiver::receive(state, number, &payload[..length], store, out) {
+    };
+    match receiver::receive(state, fields.number, packet, store, out) {
         Ok(received) => Ok(received),
         Err(refusal) => Err(RecordFault::PassedOver(refusal)),
     }

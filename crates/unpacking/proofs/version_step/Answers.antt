@@ -15,8 +15,8 @@ use Rattle.unpacking.specs.Steps.{fields_width, awaits, first, version_told}
 use Rattle.unpacking.proofs.Turning.{gives, gives_as}
 use Rattle.unpacking.proofs.version_step.Goals as goal
 
-pub overflow_add-width : goal.overflow_add-width
-overflow_add-width c =
+pub overflow_add-head : goal.overflow_add-head
+overflow_add-head c =
     let head_at : TrainHead = c.in-Ok.head in
     let known : given (head_at) ≡ head_of c.args.got.now = sym (ap paper c.in-Ok.is) ∙ c.read_head.ensures in
     let narrow : (head_at).width ≤ long_head.width = omega (arith, head_width_lem c.args.got.now (known), counted_within (head_at).width) in
