@@ -1,4 +1,5 @@
 // The OBUs of a unit from its first byte to its end (O1, O5 to O8, F6): counted, and their records stored.
+// Each loop over a unit is by a cursor and for itself, as compare_obus too: one loop with a flag was slower.
 ghost use Rattle.std.specs.Prelude.{◌≡◌, ◌*◌, ◌≤◌, length};
 ghost use Rattle.base.specs.Answers.{paper_at};
 ghost use Rattle.base.specs.Lists.{front};
