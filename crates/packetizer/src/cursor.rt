@@ -9,9 +9,7 @@ ghost use Rattle.base.specs.Answers.{paper_at};
 ghost use Rattle.packetizer.specs.Records.{plan_numbers, record_numbers};
 ghost use Rattle.packetizer.specs.Cursor.{to_come, Walkable, Starts, Fillable, Begins, Comparable};
 
-use crate::{
-    AGGREGATION_HEADER_SIZE, LEAST_MTU, PLAN_NUMBERS, PacketMetadata, Planned, packet,
-};
+use crate::{AGGREGATION_HEADER_SIZE, LEAST_MTU, PLAN_NUMBERS, PacketMetadata, Planned, packet};
 use base::{Refusal, RefusedAt};
 
 // A packet, and the byte of the OBU that the next one starts with.

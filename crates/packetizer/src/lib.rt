@@ -221,7 +221,12 @@ fn packetize<R: Recording>(obus: &[u32], mtu: usize, plan: &mut [u32]) -> usize
 }
 
 // The list of a unit's kept OBUs and their plan.
-pub fn plan_unit(mtu: usize, unit: &[u8], obus: &mut [u32], plan: &mut [u32]) -> Result<Planned, RefusedAt>
+pub fn plan_unit(
+    mtu: usize,
+    unit: &[u8],
+    obus: &mut [u32],
+    plan: &mut [u32],
+) -> Result<Planned, RefusedAt>
     ensures { leaves (paper_at result) obus.new plan.new
         ≡ plan_unit (to_plan mtu unit.now obus.old plan.old) }
 {

@@ -75,13 +75,13 @@ place_obu-f-requires g c =
     let held = current_held _ _ _ _ v.invariant.current in
     rw (size g (goal.at.place_obu-f-requires g c).After-obu_at-o) (record {
       placeable = record {
-            large = omega (arith, least g b);
-            most = omega (arith, s.most);
-            some = s.some v.i l;
-            small = omega (arith, total_each (sizes (obus_in c.args.obus.now)) v.i, s.total);
-            few = held.0;
-            fits = held.1;
-          };
+        large = omega (arith, least g b);
+        most = omega (arith, s.most);
+        some = s.some v.i l;
+        small = omega (arith, total_each (sizes (obus_in c.args.obus.now)) v.i, s.total);
+        few = held.0;
+        fits = held.1;
+      };
       closable = placing_asks v.invariant l (few g b) (near g b) (room g b);
     })
 

@@ -29,13 +29,13 @@ insert_obu-requires g c = let a = c.args in
     let none : c.new_packet.result.num_obu_elements ≡ 0 = ap (λ (p : PacketMetadata). p.num_obu_elements) e in
     record {
       placeable = record {
-            large = v.large;
-            most = v.most;
-            some = v.some;
-            small = v.small;
-            few = omega (arith, none, size);
-            fits = omega (arith, size);
-          };
+        large = v.large;
+        most = v.most;
+        some = v.some;
+        small = v.small;
+        few = omega (arith, none, size);
+        fits = omega (arith, size);
+      };
       charged = omega (arith, v.large, size, charge_none c.new_packet.result none);
       closable = closing_asks (place_new a.room a.i a.size a.f.packet _ e (sym c.if-is_full.ensures)) c.requires.closable _ c.put.auto.plan;
     }

@@ -19,7 +19,7 @@ pub next_packet-next-requires : goal.next_packet-next-requires
 next_packet-next-requires c = record {
   walkable = walkable c.if-mtu-lt-LEAST_MTU.false c.requires;
   inside = omega (arith, c.loop-obu-test.true, sizes_count c.args.obus.now);
-      starts = c.loop-obu.invariant.starts;
+  starts = c.loop-obu.invariant.starts;
 }
 
 pub same_record-requires : goal.same_record-requires
