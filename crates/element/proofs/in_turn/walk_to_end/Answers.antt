@@ -13,7 +13,7 @@ use Rattle.element.proofs.in_turn.walk_to_end.Goals as goal
 
 pub loop-at-init : goal.loop-at-init
 loop-at-init c = let l = c.args.payload.now in
-    let e : c.default-all.result ≡ unwalked = search rules in rw e (walking_first l 0 c.args.k (omega (arith, c.requires.0)) (lt-ltb 0 (length l - 1) (omega (arith, c.requires.0))))
+    let e : c.default-all.result ≡ unwalked = search rules in rw e (walking_first l 0 c.args.k c.requires.0.0 (lt-ltb 0 (length l - 1) (omega (arith, c.requires.1))))
 
 pub returns-in_err-part : goal.returns-in_err-part
 returns-in_err-part c =
@@ -25,7 +25,7 @@ pub with_part-all-requires : goal.with_part-all-requires
 with_part-all-requires c =
     let seen : paper_at c.read_element.result ≡ element_at (has_field 0 c.loop-at.all.elements) c.loop-at.at (drop c.loop-at.at c.args.payload.now) = c.read_element.ensures ∙ ap (λ (t : Bool). element_at t c.loop-at.at (drop c.loop-at.at c.args.payload.now)) (sym (always_field c.loop-at.all.elements)) in
     let found : element_at (has_field 0 c.loop-at.all.elements) c.loop-at.at (drop c.loop-at.at c.args.payload.now) ≡ given c.in_ok-part.part = sym (seen) ∙ ap paper_at c.in_ok-part.was in
-    walking_countable c.loop-at.invariant c.requires.1 (found)
+    walking_countable c.loop-at.invariant c.requires.0.1 (found)
 
 pub loop-at-smaller : goal.loop-at-smaller
 loop-at-smaller c =
