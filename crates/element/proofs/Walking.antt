@@ -4,7 +4,7 @@ use Prim.Native.Nat.compare
 use Prim.Native.Nat.{ℕ, zero, suc, ◌+◌, ◌-◌, ◌≤◌, ◌<◌}
 use native.Mathlib.Omega.{arith}
 use mathlib.Core.List.{List, [], ◌∷◌, ◌++◌, append-nil}
-use mathlib.Core.Bool.{true, false, cond}
+use mathlib.Core.Bool.{Bool, true, false, cond}
 use lib.ListN.{length, get_or, drop, length-append}
 use lib.Seq.{append_snoc, get_or-append_seam}
 use lib.Dec.{eqb}
@@ -118,6 +118,10 @@ due_no_more w n left p h = rw (ne_eqb w 0 (λ e. omega arith)) (le-ltb n w h)
 
 pub always_field : (n : ℕ) → has_field 0 n ≡ true
 always_field n = rw (ne_eqb (n + 1) 0 (λ e. omega arith))
+
+-- so that with W 0 each is read with it
+pub read_always : (n at : ℕ) (l : List ℕ) {x : Answer Part} → x ≡ element_at true at l → element_at (has_field 0 n) at l ≡ x
+read_always n at l e = ap (λ (t : Bool). element_at t at l) (always_field n) ∙ sym e
 
 -- ---- what the answer of a walk says
 
