@@ -1,21 +1,22 @@
 -- The walk through all elements, turn by turn. Assumes nothing.
-use mathlib.Core.Path.{◌≡◌, refl, sym, ap, ◌∙◌}
+use mathlib.Core.Path.{◌≡◌, refl, sym, ap, subst, ◌∙◌}
 use Prim.Native.Nat.compare
 use Prim.Native.Nat.{ℕ, zero, suc, ◌+◌, ◌-◌, ◌≤◌, ◌<◌}
 use native.Mathlib.Omega.{arith}
 use mathlib.Core.List.{List, [], ◌∷◌, ◌++◌, append-nil}
-use mathlib.Core.Bool.{true, false, cond}
+use mathlib.Core.Bool.{Bool, true, false, cond}
 use lib.ListN.{length, get_or, drop, length-append}
 use lib.Seq.{append_snoc, get_or-append_seam}
 use lib.Dec.{eqb}
 use borrow.Author.Tests.{lt-ltb, le-ltb, ne_eqb}
 use Rattle.base.specs.Answers.{Answer, given, refused}
-use Rattle.element.specs.Elements.{payload_limit, element_at, first, followed, counting, is_due, has_field, nowhere, chosen}
+use Rattle.element.specs.Elements.{payload_limit, payload_elements, element_at, first, followed, counting, is_due, has_field, nowhere, chosen}
 use Rattle.element.specs.Paper.{walked_of, walked, with_part}
 use Rattle.element.specs.Laws.{Lies, elements_from, Countable}
 use Rattle.element.specs.declared.Part.{Part}
 use Rattle.element.specs.declared.Walked.{Walked}
 use Rattle.element.proofs.Laws.{part_lies, from_first, from_step, from_end}
+use Rattle.element.proofs.Order.{chosen_in}
 use Rattle.element.proofs.Padded.{part_fielded, cursor_after, cursor_last, padded_next, padded_few}
 
 -- those found so far, and then the rest
@@ -119,6 +120,10 @@ due_no_more w n left p h = rw (ne_eqb w 0 (λ e. omega arith)) (le-ltb n w h)
 pub always_field : (n : ℕ) → has_field 0 n ≡ true
 always_field n = rw (ne_eqb (n + 1) 0 (λ e. omega arith))
 
+-- so that with W 0 each is read with it
+pub read_always : (n at : ℕ) (l : List ℕ) {x : Answer Part} → x ≡ element_at true at l → element_at (has_field 0 n) at l ≡ x
+read_always n at l e = ap (λ (t : Bool). element_at t at l) (always_field n) ∙ sym e
+
 -- ---- what the answer of a walk says
 
 pub walked_kept : (k : ℕ) (x : Answer (List Part)) {a : Walked} → given a ≡ walked k x → a.kept ≡ chosen k x
@@ -127,6 +132,6 @@ walked_kept k (given ps) {a} e =
     ap (λ (w : Walked). w.kept) f
 walked_kept k (refused n at) e = let z : ◌≡◌ {A = ℕ} 0 1 = cc in absurd (omega arith)
 
-pub walked_none : (k : ℕ) (x : Answer (List Part)) {n at : ℕ} → refused n at ≡ walked k x → nowhere ≡ chosen k x
-walked_none k (given ps) e = let z : ◌≡◌ {A = ℕ} 0 1 = cc in absurd (omega arith)
-walked_none k (refused m a) e = refl
+-- element k lies within the payload
+pub kept_in : (payload : List ℕ) (k : ℕ) {a : Walked} → given a ≡ walked k (payload_elements payload) → a.kept.start + a.kept.length ≤ length payload
+kept_in payload k e = subst (λ (p : Part). p.start + p.length ≤ length payload) (sym (walked_kept k (payload_elements payload) e)) (chosen_in payload k)

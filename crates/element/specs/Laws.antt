@@ -28,6 +28,10 @@ pub record ReadsAs (payload : List ℕ) (elements : List (List ℕ)) : Type 0 wh
   pub read : elements_of payload ≡ given parts
   pub holds : map (bytes_of payload) parts ≡ elements
 
+-- neither empty nor over its limit
+abbrev pub Within : List ℕ → Type 0
+Within payload = (1 ≤ length payload) × (length payload ≤ payload_limit)
+
 -- an element stands at the cursor
 pub record Stands (field : Bool) (at : ℕ) (payload : List ℕ) : Type 0 where
   pub inside : at ≤ length payload

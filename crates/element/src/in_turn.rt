@@ -2,10 +2,10 @@
 // padded.
 ghost use Rattle.std.specs.Prelude.{◌≡◌, ◌-◌, ◌≤◌, ◌<◌, cond, length, drop};
 ghost use Rattle.leb128.specs.Field.{is_padded};
-ghost use Rattle.element.specs.Elements.{payload_limit, counting};
+ghost use Rattle.element.specs.Elements.{counting};
 ghost use Rattle.base.specs.Answers.{paper_at};
 ghost use Rattle.element.specs.Paper.{with_part, walked};
-ghost use Rattle.element.specs.Laws.{Fielded, Countable};
+ghost use Rattle.element.specs.Laws.{Fielded, Countable, Within};
 
 use crate::{Part, Walked};
 use base::{Refusal, RefusedAt};
@@ -57,7 +57,7 @@ fn with_part(payload: &[u8], all: Walked, k: usize, at: usize, part: Part) -> Wa
 // Elements with a length field up to the end of the payload, of which there is one: how many, element k, the last, and how many length
 // fields are padded.
 fn walk_to_end(payload: &[u8], k: usize) -> Result<Walked, RefusedAt>
-    requires { (1 < length payload.now) × (length payload.now ≤ payload_limit) }
+    requires { Within payload.now × (1 < length payload.now) }
     ensures { paper_at result ≡ walked k (counting 0 (drop 1 payload.now)) }
 {
     let mut at: usize = 1;
@@ -70,9 +70,9 @@ fn walk_to_end(payload: &[u8], k: usize) -> Result<Walked, RefusedAt>
     Ok(all)
 }
 
-// So many elements, each but the last with a length field: the same of them.
+// So many elements, each but the last with a length field: the same of them. `all` counts them, so that no index stands beside it.
 fn walk_counted(payload: &[u8], w: usize, k: usize) -> Result<Walked, RefusedAt>
-    requires { (1 ≤ length payload.now) × (length payload.now ≤ payload_limit) × (1 ≤ w) }
+    requires { Within payload.now × (1 ≤ w) }
     ensures { paper_at result ≡ walked k (counting w (drop 1 payload.now)) }
 {
     let mut at: usize = 1;
@@ -85,10 +85,10 @@ fn walk_counted(payload: &[u8], w: usize, k: usize) -> Result<Walked, RefusedAt>
     Ok(all)
 }
 
-// The elements after the header, by W.
+// The elements after the header, by W: by two loops, since one with a flag took more instructions.
 // Helper: the payload must be neither empty nor over its limit.
 pub fn walk_by_w(payload: &[u8], w: usize, k: usize) -> Result<Walked, RefusedAt>
-    requires { (1 ≤ length payload.now) × (length payload.now ≤ payload_limit) }
+    requires { Within payload.now }
     ensures { paper_at result ≡ walked k (counting w (drop 1 payload.now)) }
 {
     if w > 0 {

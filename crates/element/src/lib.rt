@@ -6,9 +6,9 @@ mod in_turn; // in_turn.rt: from element to element, by W
 ghost use Rattle.std.specs.Prelude.{◌≡◌, ◌≤◌, ◌&&◌, length, drop, eqb};
 ghost use Rattle.base.specs.Answers.{given, paper_at};
 ghost use Rattle.element.specs.Header.{z_bit, y_bit, w_of, n_bit};
-ghost use Rattle.element.specs.Elements.{payload_limit, element_at, has_field, payload_elements, element_of, bytes_of, place_at};
+ghost use Rattle.element.specs.Elements.{element_at, has_field, payload_elements, element_of, bytes_of, place_at};
 ghost use Rattle.element.specs.Paper.{walked};
-ghost use Rattle.element.specs.Laws.{Stands};
+ghost use Rattle.element.specs.Laws.{Stands, Within};
 
 use base::{Refusal, RefusedAt};
 
@@ -143,7 +143,7 @@ pub fn part_at(payload: &[u8], at: usize, field: bool) -> Part
 // All elements of a payload that is neither empty nor over its limit.
 // Helper: it must be neither.
 pub fn walk_within(payload: &[u8], k: usize) -> Result<Walked, RefusedAt>
-    requires { (1 ≤ length payload.now) × (length payload.now ≤ payload_limit) }
+    requires { Within payload.now }
     ensures { paper_at result ≡ walked k (payload_elements payload.now) }
 {
     let header = payload[0];

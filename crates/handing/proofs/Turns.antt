@@ -132,7 +132,7 @@ handing_first {payload} {store} {cursor} {from} {to} {joined} f write out =
     same true = refl
     same false = refl
 
--- this part is element i, of which OBU `to` has not come yet
+-- this part is element i, and comes before element `to`
 pub record Turn (payload : List ℕ) (i to : ℕ) (p : Part) : Type 0 where
   pub here : p ≡ get_or (parts_of payload) i nowhere
   pub more : i < to

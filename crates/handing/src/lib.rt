@@ -66,6 +66,7 @@ fn finish_obu(o: Across, out: &mut [u8], at: usize, write: bool) -> Result<Hande
 }
 
 // Elements `from` up to `to`, each finishing an OBU, the first with `joined` bytes of the store in front: counted, and written where told to.
+// One loop with a flag for both, so that what is written is what was counted.
 fn hand_out(
     payload: &[u8],
     cursor: usize,

@@ -4,7 +4,6 @@ use lib.ListN.{drop}
 use borrow.Author.Rules.{rules}
 use Rattle.base.proofs.Lists.{part_from}
 use Rattle.leb128.specs.Field.{sized, size_field}
-use Rattle.base.specs.Answers.{paper}
 use Rattle.leb128.proofs.Padded.{read_says, unread_says}
 use Rattle.element.specs.Elements.{element_at}
 use Rattle.element.specs.Laws.{Stands}
@@ -14,25 +13,25 @@ use Rattle.element.proofs.part_at.Goals as goal
 pub overflow_add-start : goal.overflow_add-start
 overflow_add-start c =
     let stands : Stands true c.args.at c.args.payload.now = subst (λ (t : Bool). Stands t c.args.at c.args.payload.now) c.if-field.true c.requires in
-    let read : let a = c.args in let f = c.in-Ok.size in sized f.value f.used ≡ size_field (drop a.at a.payload.now) = read_says _ (sym (ap paper c.in-Ok.is) ∙ c.read_leb128.ensures) ∙ ap size_field (part_from c.args.payload.now c.args.at c.requires.inside) in
+    let read : let a = c.args in let f = c.in-Ok.size in sized f.value f.used ≡ size_field (drop a.at a.payload.now) = read_says _ c.in-Ok.ensures ∙ ap size_field (part_from c.args.payload.now c.args.at c.requires.inside) in
     let h = sized_within (stands) _ _ (read) in search rules
 
 pub overflow_add-result : goal.overflow_add-result
 overflow_add-result c =
     let stands : Stands true c.args.at c.args.payload.now = subst (λ (t : Bool). Stands t c.args.at c.args.payload.now) c.if-field.true c.requires in
-    let read : let a = c.args in let f = c.in-Ok.size in sized f.value f.used ≡ size_field (drop a.at a.payload.now) = read_says _ (sym (ap paper c.in-Ok.is) ∙ c.read_leb128.ensures) ∙ ap size_field (part_from c.args.payload.now c.args.at c.requires.inside) in
+    let read : let a = c.args in let f = c.in-Ok.size in sized f.value f.used ≡ size_field (drop a.at a.payload.now) = read_says _ c.in-Ok.ensures ∙ ap size_field (part_from c.args.payload.now c.args.at c.requires.inside) in
     let h = sized_within (stands) _ _ (read) in search rules
 
 pub returns-then-field : goal.returns-then-field
 returns-then-field c =
     let stands : Stands true c.args.at c.args.payload.now = subst (λ (t : Bool). Stands t c.args.at c.args.payload.now) c.if-field.true c.requires in
-    let read : let a = c.args in let f = c.in-Ok.size in sized f.value f.used ≡ size_field (drop a.at a.payload.now) = read_says _ (sym (ap paper c.in-Ok.is) ∙ c.read_leb128.ensures) ∙ ap size_field (part_from c.args.payload.now c.args.at c.requires.inside) in
+    let read : let a = c.args in let f = c.in-Ok.size in sized f.value f.used ≡ size_field (drop a.at a.payload.now) = read_says _ c.in-Ok.ensures ∙ ap size_field (part_from c.args.payload.now c.args.at c.requires.inside) in
     stands_sized (stands) _ _ (read) ∙ ap (λ (b : Bool). element_at b c.args.at (drop c.args.at c.args.payload.now)) (sym c.if-field.true)
 
 pub returns-in_default : goal.returns-in_default
 returns-in_default c =
     let stands : Stands true c.args.at c.args.payload.now = subst (λ (t : Bool). Stands t c.args.at c.args.payload.now) c.if-field.true c.requires in
-    absurd (stands_readable (stands) _ (unread_says _ (sym (ap paper c.in_default.is) ∙ c.read_leb128.ensures) ∙ ap size_field (part_from c.args.payload.now c.args.at c.requires.inside)))
+    absurd (stands_readable (stands) _ (unread_says _ c.in_default.ensures ∙ ap size_field (part_from c.args.payload.now c.args.at c.requires.inside)))
 
 pub returns : goal.returns
 returns c = let l = c.args.payload.now in
