@@ -140,7 +140,7 @@ fn unit_step(
     if got.len() < place.length {
         return bad_input(place, out);
     }
-    base::copy_bytes(got, 0, place.length, unit, 0);
+    unit[..place.length].copy_from_slice(&got[..place.length]);
     Turn {
         place: awaiting(place, Wait::Further),
         order: turns::ask(0, 1),
@@ -160,7 +160,7 @@ fn further_step(
     ensures { Writes (further_told place got.now unit.now) result out.old out.new
         × Ready result.place unit.now obus.new plan.new }
 {
-    if got.len() > 0 {
+    if !got.is_empty() {
         return bad_input(place, out);
     }
     match packetizer::plan_unit(place.mtu, &unit[..place.length], obus, plan) {

@@ -1,15 +1,18 @@
 -- The packets of a unit that are still to be written, and the record of the next. Assumes nothing.
-use Rattle.std.proofs.Common.{◌≡◌, ℕ, ◌+◌, ◌-◌, ◌*◌, ◌^◌, ◌<◌, ◌≤◌, ltb, List, length, get_or, take, ap, ◌∙◌, arith, length-append, length-take, take_all, ltb-false}
+use Rattle.std.proofs.Common.{◌≡◌, ℕ, ◌+◌, ◌-◌, ◌*◌, ◌^◌, ◌<◌, ◌≤◌, ltb, List, length, get_or, take, sym, ap, ◌∙◌, arith, length-append, length-take, take_all, ltb-false}
 use Rattle.base.specs.Lists.{front, Put}
 use Rattle.base.proofs.Lists.{put_then, put_front}
 use Rattle.base.proofs.Tests.{by_cond}
 use Rattle.obu.specs.Unit.{unit_limit, obus_of}
-use Rattle.obu.specs.Records.{obu_numbers}
+use Rattle.obu.specs.Records.{obu_numbers, obus_in}
 use Rattle.obu.specs.Laws.{Bytes}
-use Rattle.obu.proofs.Records.{flat_length}
+use Rattle.obu.proofs.Records.{flat_length, unit_flat}
 use Rattle.packetizer.specs.Call.{mtu_limit, sizes_of, unit_plan}
 use Rattle.packetizer.specs.Laws.{Sound}
-use Rattle.packetizer.specs.Records.{plan_numbers, no_packet}
+use Rattle.packetizer.specs.Records.{plan_numbers, no_packet, packets_in}
+use Rattle.packetizer.specs.declared.PacketMetadata.{PacketMetadata}
+use Rattle.packetizer.proofs.Records.{packets_flat}
+use Rattle.payloader.specs.Inside as payloader
 use Rattle.payloader.specs.Payload.{payload_at}
 use Rattle.payloader.proofs.Packets.{packet_sound}
 use Rattle.payloader.proofs.Totals.{payload_length, payload_most}
@@ -53,6 +56,20 @@ module _ (w n : ℕ) (p : List ℕ) where
   pub record_put : {l l₁ l₂ : List ℕ} {at at₁ at₂ size : ℕ} → length p ≡ size
       → Put l l₁ at at₁ (record_fields w (number_width + size) n) → Put l₁ l₂ at₁ at₂ p → Put l l₂ at at₂ (record_bytes w (packet n p))
   record_put e h k = put_then (rw (← e) at h) k
+
+-- ---- what lent lists of one unit say
+
+module _ {mtu : ℕ} {unit obus plan : List ℕ} (lent : payloader.Lent mtu unit obus plan) (bytes : Bytes unit) where
+  pub obus_said : obus_in obus ≡ obus_of unit
+  obus_said = ap obus_in lent.obus_is ∙ unit_flat unit bytes
+
+  -- how many bytes packet k has
+  pub size_said : (k : ℕ) {p : PacketMetadata} → k < length (unit_plan mtu unit) → p ≡ get_or (packets_in plan) k no_packet
+      → length (payload_at mtu unit k) ≡ p.packet_size + 1
+  size_said k there e =
+      payload_length mtu unit lent.small bytes k there
+      ∙ ap (λ (q : PacketMetadata). q.packet_size + 1)
+      (sym (e ∙ ap (λ (l : List ℕ). get_or (packets_in l) k no_packet) lent.plan_is ∙ ap (λ (ps : List PacketMetadata). get_or ps k no_packet) (packets_flat (unit_plan mtu unit))))
 
 -- ---- what is ready, where there is a packet more
 

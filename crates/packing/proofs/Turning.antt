@@ -28,29 +28,7 @@ module _ (input obus plan : List ℕ) where
   pub ready_as : {p q : Place} → p ≡ q → ReadyAt q input obus plan → ReadyAt p input obus plan
   ready_as e r = rw e r
 
-  pub ready_given : {t : Told Place} {turn : Turn Place} {line line' : List ℕ} → Gives t turn line line' → ReadyAt t.place input obus plan → ReadyAt turn.place input obus plan
-  ready_given {t} {turn} g r = ready_as {p = turn.place} {q = t.place} g.turned.0.place_is r
-
-  pub version_ready : (p : Place) (x : Version) → ReadyAt (version_told p x).place input obus plan
-  version_ready p (known v) = tt
-  version_ready p other = tt
-
-  pub head_ready : (p : Place) (x : Head) → ReadyAt (head_told p x).place input obus plan
-  head_ready p (found h) = tt
-  head_ready p none = tt
-
-  pub length_ready : (p : Place) (l : List ℕ) → ReadyAt (length_told p (length_in l)).place input obus plan
-  length_ready p l = go (length_in l) refl
-    where
-      go : (x : Length) → x ≡ length_in l → ReadyAt (length_told p x).place input obus plan
-      go over e = tt
-      go cut e = tt
-      go (stated s) e = stated_within l s e
-
--- where a unit is waited for, and where packets are
-pub unit_at : (mtu : ℕ) (input obus plan : List ℕ) {w : Wait} {n : ℕ} → w ≡ wait.Unit n → ReadyBy w mtu input obus plan → n ≤ unit_store
-unit_at mtu input obus plan e r = rw e at r
-
+-- where packets are waited for
 pub ready_at : (mtu : ℕ) (input obus plan : List ℕ) {w : Wait} {g : Progress} → w ≡ wait.Packets g → ReadyBy w mtu input obus plan → Ready mtu g (take g.unit input) obus plan
 ready_at mtu input obus plan e r = rw e at r
 
@@ -74,26 +52,6 @@ ready_wider (wait.Packets g) mtu n input obus plan r =
     let within : g.unit ≤ n = omega (arith, r.unit_is, length-take g.unit (take n input), length-take n input) in
     rw (take-take g.unit n input within) at r
 ready_wider wait.Nothing mtu n input obus plan r = tt
-
--- ---- what is written: nothing but the version byte and records
-
-pub first_stored : {b : ℕ} (l : List ℕ) → 1 ≤ length l → set l 0 b ≡ front (b ∷ []) l
-first_stored [] h = absurd (omega arith)
-first_stored (a ∷ l) h = refl
-
-pub version_quiet : (p : Place) (x : Version) (l : List ℕ) → l ≡ front (version_told p x).written l
-version_quiet p (known v) l = refl
-version_quiet p other l = refl
-
-pub length_quiet : (p : Place) (x : Length) (l : List ℕ) → l ≡ front (length_told p x).written l
-length_quiet p over l = refl
-length_quiet p cut l = refl
-length_quiet p (stated s) l = refl
-
-pub unit_quiet : (p : Place) (s : ℕ) (x : Unit') (l : List ℕ) → l ≡ front (unit_told p s x).written l
-unit_quiet p s cut_short l = refl
-unit_quiet p s (refused_by k) l = refl
-unit_quiet p s (packed n) l = refl
 
 -- ---- the whole step, where n bytes were read and this was waited for
 

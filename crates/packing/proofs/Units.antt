@@ -43,11 +43,6 @@ module _ (mtu : ℕ) (unit obus plan : List ℕ) where
 pub begins_as : {mtu s : ℕ} {p : Planned} {unit obus plan : List ℕ} → length unit ≡ s → Ready mtu (begins (length unit) p) unit obus plan → Ready mtu (begins s p) unit obus plan
 begins_as {mtu} {s} {p} {unit} {obus} {plan} e r = rw e at r
 
--- with the stores of the rules
-pub step_in_lem : (mtu s : ℕ) (l obus plan : List ℕ) → length obus ≡ obu_list_numbers → length plan ≡ plan_list_numbers
-    → unit_in (answer_in (length obus / obu_numbers) (length plan / plan_numbers)) mtu s l ≡ step_in mtu s l
-step_in_lem mtu s l obus plan a b = rw (a, b) refl
-
 -- ---- a unit that is packed has space for its records, in both lists, and its packets are counted
 
 module _ (mtu : ℕ) (u : List ℕ) (p : Planned) where

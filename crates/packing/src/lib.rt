@@ -224,7 +224,7 @@ fn record_turn(
     Turn {
         place: Place {
             wait: Wait::Packets(after),
-            number: std::num::wrapping_add_u16(place.number, 1),
+            number: place.number.wrapping_add(1),
             ..place
         },
         order: turns::ask(end, 0),
@@ -281,6 +281,7 @@ pub fn step(
             let about = subjects::written_subject(wait, place.count);
             say(place, about, Word::WriteFailed, line)
         }
+        // one step for each thing that is waited for
         Ok(n) => match wait {
             Wait::Version => version_step(place, &input[..n], line),
             Wait::Head(version) => head_step(place, version, &input[..n], written, line),

@@ -8,7 +8,8 @@ ghost use Rattle.turns.specs.Text.{line_bytes, most_digits, decimal, labelled, s
 ghost use Rattle.turns.specs.Orders.{next_count};
 
 // What a program does before its next step, in this order: so many bytes at the front of its output go to standard output, so many
-// at the front of its line to standard error, and so many are read to the front of its input. Without `more` it does nothing and ends.
+// at the front of its line to standard error, and so many are read to the front of its input. Without `more` it does nothing and ends;
+// a flag and no `Option`, since the definitions and theorems on runs speak of it.
 #[derive(Clone, Copy)]
 pub struct Order {
     pub more: bool,
@@ -34,7 +35,7 @@ pub enum Failure {
 // What came of it: how many bytes were read, fewer than asked for at the end of the input alone; or what failed.
 pub type Came = Result<usize, Failure>;
 
-// What a line is of, and what it says; a refusal is given by its number.
+// What a line is of, and what it says. A refusal is given by its number, since the definitions and theorems on runs say numbers.
 #[derive(Clone, Copy)]
 pub enum Subject {
     Input,
@@ -83,9 +84,9 @@ pub fn ask(write: usize, read: usize) -> Order
 {
     Order {
         more: true,
-        write: write,
+        write,
         say: 0,
-        read: read,
+        read,
     }
 }
 
@@ -96,8 +97,8 @@ pub fn tell(say: usize, read: usize) -> Order
     Order {
         more: true,
         write: 0,
-        say: say,
-        read: read,
+        say,
+        read,
     }
 }
 
@@ -105,7 +106,7 @@ pub fn tell(say: usize, read: usize) -> Order
 pub fn next_count(k: u64) -> u64
     ensures { result ≡ next_count k }
 {
-    std::num::wrapping_add_u64(k, 1)
+    k.wrapping_add(1)
 }
 
 // A number in decimal at the cursor `at`, and the cursor after it.

@@ -3,9 +3,6 @@ use Rattle.turns.specs.Text.{most_digits}
 use Rattle.turns.proofs.Digits.{digits_are, digits_most}
 use Rattle.turns.proofs.put_decimal.Goals as goal
 
-pub put_text-requires : goal.put_text-requires
-put_text-requires c = omega (arith, c.decimal-digits.ensures.in_bounds.1, digits_most c.args.n _ (search rules) c.decimal-digits.ensures.len)
-
 pub returns : goal.returns
 returns c = let a = c.args in
     let f = c.decimal-digits.ensures.len in
