@@ -3,14 +3,14 @@ use mathlib.Core.Path.{◌≡◌, sym, ap, ◌∙◌}
 use Prim.Native.Nat.{ℕ, ◌+◌, ◌-◌, ◌≤◌, ◌<◌, min}
 use native.Mathlib.Omega.{arith}
 use mathlib.Core.List.{List, ◌∷◌, ◌++◌}
-use lib.ListN.{length, get_or, take, drop, length-drop}
+use lib.ListN.{length, take, drop, length-drop}
 use lib.Seq.{take_all, take-take, drop-drop, sets, sets-eq}
 use lib.Dec.{leb}
-use borrow.Author.Tests.{eq-eqb, leb-true, leb-false}
+use borrow.Author.Tests.{leb-true, leb-false}
 use Rattle.base.specs.Lists.{replaced}
 use Rattle.base.proofs.Lists.{take_drop, take_append, drop_append, sets_append}
 use Rattle.base.proofs.Tests.{split_on}
-use Rattle.obu.specs.Header.{header_length, extension_bit, cleared}
+use Rattle.obu.specs.Header.{header_length, cleared}
 use Rattle.obu.specs.Wire.{extension_bytes, payload_of, sent}
 use Rattle.obu.specs.declared.Obu.{Obu}
 use Rattle.obu.proofs.Theorems.{extension_length}
