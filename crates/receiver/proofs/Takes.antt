@@ -40,11 +40,11 @@ module _ (space room : ℕ) (t : Taken) where
 
 -- ---- a packet that is taken: z, y its flags, k bytes of the store joined, `from` elements thrown away, those up to `to` finished, r left open
 
-abbrev cut_by : Inputs → Walked → Cut → Type 0
-cut_by i all c =
+abbrev CutBy : Inputs → Walked → Cut → Type 0
+CutBy i all c =
     IsCut i.state i.packet.label (eqb (z_bit (get_or i.packet.payload 0 0)) 1) (eqb (y_bit (get_or i.packet.payload 0 0)) 1) all c
 
-module _ {i : Inputs} {all : Walked} {c : Cut} (opening : Opened i all) (s : cut_by i all c) where
+module _ {i : Inputs} {all : Walked} {c : Cut} (opening : Opened i all) (s : CutBy i all c) where
   abbrev payload : List ℕ
   payload = i.packet.payload
 
