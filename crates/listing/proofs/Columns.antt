@@ -5,7 +5,7 @@ use native.Mathlib.Numerals.{add-one}
 use native.Mathlib.Omega.{arith}
 use mathlib.Core.List.{List, [], ◌∷◌, ◌++◌, flat_map}
 use lib.ListN.{length, get_or, take}
-use lib.Seq.{take-suc, take_all}
+use lib.Seq.{take-suc}
 use Rattle.base.specs.Lists.{Put}
 use Rattle.base.proofs.Lists.{put_then, flat_map_append, flat_map_one}
 use Rattle.turns.specs.Text.{most_digits}
@@ -35,10 +35,3 @@ columns_next {numbers} {l₀} {l} {l'} {i} {at} {at'} c more p short same =
       short = omega (arith, c.short);
       same = same ∙ c.same;
     }
-
-pub all_columns : {numbers l₀ l : List ℕ} {i at : ℕ} → Columns numbers l₀ l i at → length numbers ≤ i
-    → Put l₀ l 0 at (flat_map column numbers) × (at ≤ length numbers * (most_digits + 1))
-all_columns {numbers} {l₀} {l} {i} {at} c h = (
-  subst (λ (x : List ℕ). Put l₀ l 0 at (flat_map column x)) (take_all i numbers h) c.put,
-  omega (arith, c.short, c.done),
-)

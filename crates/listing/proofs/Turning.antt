@@ -2,7 +2,7 @@
 use mathlib.Core.Path.{◌≡◌, refl, sym, ap, subst, ◌∙◌}
 use Prim.Native.Nat.{ℕ, ◌≤◌}
 use native.Mathlib.Omega.{arith}
-use mathlib.Core.Bool.{true, false}
+use mathlib.Core.Bool.{true}
 use mathlib.Core.List.{List, []}
 use Rattle.std.specs.Prelude.{Ok}
 use lib.ListN.{length, take}
@@ -13,10 +13,10 @@ use Rattle.base.specs.Lists.{front, Put}
 use Rattle.base.proofs.Lists.{put_front}
 use Rattle.base.proofs.Tests.{by_cond}
 use Rattle.turns.specs.Text.{line_bytes}
-use Rattle.turns.specs.Orders.{Told, ends, asks, Turned, Came, arrival}
+use Rattle.turns.specs.Orders.{Told, asks, Turned, Came, arrival}
 use Rattle.turns.specs.declared.Turn.{Turn}
 use Rattle.turns.proofs.Orders.{came_most}
-use Rattle.turns.proofs.Turning.{ended, asked}
+use Rattle.turns.proofs.Turning.{asked}
 use Rattle.listing.specs.Input.{unit_store, Head, bad, states}
 use Rattle.listing.specs.Steps.{head_told, unit_told, row_told, told_by, told, unit_by, unit_next, Filled, ReadyBy, Ready, Lent, Printed, Writes}
 use Rattle.listing.specs.declared.Wait.{Wait}
@@ -46,12 +46,6 @@ module _ {t : Told Place} {r : Turn Place} {out out' : List ℕ} where
   -- what is ready for the place told is ready for the place that the code has
   pub ready_told : (unit obus plan : List ℕ) → Writes t r out out' → Ready t.place unit obus plan → Ready r.place unit obus plan
   ready_told unit obus plan w h = subst (λ (p : Place). Ready p unit obus plan) (sym (w.turned []).0.place_is) h
-
--- the run is over
-pub wrote_none : {t : Told Place} {r : Turn Place} {out : List ℕ} (p : Place) → t ≡ ends p → r.place ≡ p
-    → r.order ≡ record { more = false; write = 0; say = 0; read = 0 } → Writes t r out out
-wrote_none {t} {r} {out} p e f g =
-    record { turned = λ line. ended p e f g; out_is = ap (λ (x : Told Place). front x.written out) (sym e) }
 
 -- ---- what came, and what is ready for it
 

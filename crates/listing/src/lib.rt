@@ -8,11 +8,10 @@ ghost use Rattle.std.specs.Prelude.{◌≡◌, ℕ, ◌≤◌, true, List, [], l
 ghost use Rattle.base.specs.Lists.{front};
 ghost use Rattle.turns.specs.Text.{line_bytes};
 ghost use Rattle.turns.specs.Orders.{arrival, Turned};
-ghost use Rattle.listing.specs.Input.{unit_store, obu_list_numbers, plan_list_numbers, head_of};
+ghost use Rattle.listing.specs.Input.{unit_store, head_of};
 ghost use Rattle.listing.specs.Listing.{bad_text};
 ghost use Rattle.listing.specs.Steps.{starts_with, awaits, prints, head_told, unit_told, unit_after, further_told, row_told, read_of, failed, told, unit_next, Filled, Ready, Lent, Writes};
 
-use packetizer::Planned;
 use turns::{Came, Failure, LINE_BYTES, Subject, Word};
 
 // The bytes of a head, of the unit store, and the numbers of a list of 512 records (L12, L13).
@@ -169,12 +168,9 @@ fn further_step(
             let end = text::put_two(b"refused ", number as u64, b" ", refused.at as u64, out);
             print(place, end)
         }
-        Ok(
-            Planned {
-                obus: count,
-                packets,
-            },
-        ) => {
+        Ok(planned) => {
+            let count = planned.obus;
+            let packets = planned.packets;
             let end = text::put_two(b"obus ", count as u64, b"\npackets ", packets as u64, out);
             Turn {
                 place: Place {
@@ -238,12 +234,12 @@ fn failed_step(stood: Place, subject: Subject, word: Word, line: &mut [u8; LINE_
 }
 
 // The next turn, by what came of the one before: all that `planlist` decides.
-// Helper: every store must have exactly its length (L12, L13), no more bytes may have come than the input holds, the unit must be within
-// its store, and while lines are printed the lists must be those of the unit, as the step before left them.
+// Helper: no more bytes may have come than the input holds, the unit must be within its store, and while lines are printed the lists must
+// be those of the unit, as the step before left them. The stores have exactly their lengths (L12, L13) by their types.
 pub fn step(
     place: Place,
     came: Came,
-    input: &[u8],
+    input: &[u8; UNIT_STORE],
     unit: &mut [u8; UNIT_STORE],
     obus: &mut [u32; OBU_LIST_NUMBERS],
     plan: &mut [u32; PLAN_LIST_NUMBERS],

@@ -5,7 +5,7 @@ ghost use Rattle.base.specs.Lists.{Put};
 ghost use Rattle.obu.specs.Records.{obus_in};
 ghost use Rattle.packetizer.specs.Records.{plan_numbers, packets_in};
 ghost use Rattle.aggregation.specs.Header.{Headed};
-ghost use Rattle.turns.specs.Text.{line_bytes, most_digits};
+ghost use Rattle.turns.specs.Text.{most_digits};
 ghost use Rattle.listing.specs.Row.{row_of, capital, column, two_digits, row_text};
 ghost use Rattle.listing.specs.Listing.{two_numbers};
 ghost use Rattle.listing.specs.Steps.{Printed};
@@ -13,7 +13,7 @@ ghost use Rattle.listing.specs.Steps.{Printed};
 use crate::Row;
 use turns::LINE_BYTES;
 
-// The line of packet k.
+// The line of packet k. Its numbers are copied one by one, since a `Row` has them as the listing does, and not as a plan list does.
 // Helper: the plan must have a whole record k, and the header call give a header for it.
 pub fn row_at(unit: &[u8], obus: &[u32], plan: &[u32], k: usize) -> Row
     requires plan_numbers_in_bounds { (k + 1) * plan_numbers ≤ length plan.now }

@@ -5,7 +5,7 @@ use Rattle.base.proofs.Lists.{take_drop, short_front}
 use Rattle.base.proofs.Tests.{split_on, or_second}
 use Rattle.base.specs.BigEndian.{value_of, value_at}
 use Rattle.train.specs.Train.{number_width}
-use Rattle.packing.specs.Pack.{version_width, version_byte, mtu_width, known, other, version_with, version_in, Version, rest_width, found, none, head_after, unit_width, unit_store, over, stated, cut, length_in}
+use Rattle.packing.specs.Pack.{version_width, mtu_width, other, version_with, version_in, Version, rest_width, found, none, head_after, unit_width, unit_store, over, stated, cut, length_in}
 use Rattle.packing.specs.declared.input.InputVersion.{InputVersion}
 use Rattle.packing.specs.declared.input.InputVersion.TheVariants as version
 

@@ -1,17 +1,16 @@
 -- A step gives the turn that is told, and leaves the stores ready for it. Assumes nothing.
-use Rattle.std.proofs.Common.{◌≡◌, ℕ, ◌≤◌, List, [], ◌∷◌, length, take, set, sym, refl, ap, ◌∙◌, arith, length-take, take-take}
+use Rattle.std.proofs.Common.{◌≡◌, ℕ, ◌≤◌, List, take, sym, ap, ◌∙◌, arith, length-take, take-take}
 use Rattle.std.specs.Prelude.{Ok}
 use Rattle.base.specs.Lists.{front}
 use Rattle.turns.specs.Orders.{Told, Turned, Came, arrival}
 use Rattle.turns.specs.declared.Order.{Order}
 use Rattle.turns.specs.declared.Turn.{Turn}
-use Rattle.packing.specs.Pack.{unit_store, Version, known, other, Head, found, none, Length, over, stated, cut, length_in, Unit', cut_short, refused_by, packed}
-use Rattle.packing.specs.Steps.{record_room, version_told, head_told, length_told, unit_told, told_by, told, Ready, ReadyBy, ReadyAt, Still, Gives}
+use Rattle.packing.specs.Pack.{unit_store, Version, Head, Length}
+use Rattle.packing.specs.Steps.{record_room, told_by, told, Ready, ReadyBy, ReadyAt, Still, Gives}
 use Rattle.packing.specs.declared.unit.Progress.{Progress}
 use Rattle.packing.specs.declared.Wait.{Wait}
 use Rattle.packing.specs.declared.Wait.TheVariants as wait
 use Rattle.packing.specs.declared.Place.{Place}
-use Rattle.packing.proofs.Reading.{stated_within}
 
 -- where the run then stands is this place
 pub gives : {t : Told Place} {turn : Turn Place} {line line' : List ℕ} (p : Place) → turn.place ≡ p → Still p.wait turn.order

@@ -11,7 +11,7 @@ use Rattle.packetizer.specs.declared.Planned.{Planned}
 use Rattle.packetizer.proofs.Calls.{given_kept, listed_few}
 use Rattle.packetizer.proofs.Accepted.{accepted, obus_length, planned_lists}
 use Rattle.packing.specs.Pack.{unit_store, list_records, answer_in, cut_short, packed_by, unit_in}
-use Rattle.packing.specs.Steps.{obu_list_numbers, plan_list_numbers, begins, step_in, Ready}
+use Rattle.packing.specs.Steps.{begins, Ready}
 
 -- ---- what is known where the plan call has planned
 

@@ -5,12 +5,12 @@ mod input;
 mod subjects;
 mod unit;
 
-ghost use Rattle.std.specs.Prelude.{◌≡◌, ℕ, ◌<◌, ◌≤◌, List, [], length};
+ghost use Rattle.std.specs.Prelude.{◌≡◌, ℕ, ◌<◌, ◌≤◌, List, []};
 ghost use Rattle.base.specs.Lists.{front};
 ghost use Rattle.payloader.specs.Payload.{payloads_of};
 ghost use Rattle.turns.specs.Orders.{arrival, says};
 ghost use Rattle.packing.specs.Pack.{unit_store, version_in, head_after, length_in};
-ghost use Rattle.packing.specs.Steps.{obu_list_numbers, plan_list_numbers, record_room, awaits, next, starts_with, version_told, head_told, length_told, unit_told, step_in, packet_told, told, ReadyAt, LentPackets, Gives, Lent};
+ghost use Rattle.packing.specs.Steps.{awaits, next, starts_with, version_told, head_told, length_told, unit_told, step_in, packet_told, told, ReadyAt, LentPackets, Gives, Lent};
 
 use input::{Cut, InputVersion};
 use turns::{Came, Failure, LINE_BYTES, Subject, Word};
@@ -255,12 +255,12 @@ fn packet_step(
 }
 
 // The next turn, by what came of the one before: all that `pack` decides.
-// Helper: every store must have exactly its length (L12 to L14), no more bytes may have come than the input holds, a unit that is waited
-// for must fit, and while its packets are written it must stand first in the input, its list and plan as the step before left them.
+// Helper: no more bytes may have come than the input holds, a unit that is waited for must fit, and while its packets are written it must
+// stand first in the input, its list and plan as the step before left them. The stores have exactly their lengths (L12 to L14) by their types.
 pub fn step(
     place: Place,
     came: Came,
-    input: &[u8],
+    input: &[u8; UNIT_STORE],
     obus: &mut [u32; OBU_LIST_NUMBERS],
     plan: &mut [u32; PLAN_LIST_NUMBERS],
     written: &mut [u8; RECORD_BYTES],

@@ -39,7 +39,7 @@ impl From<RefusedAt> for UnitFault {
 }
 
 // Writes the record of packet k, with a length field of this width: what stands before the payload, and the payload right behind it.
-// Returns how many bytes it has.
+// Returns how many bytes it has. Unit and lists are lent apart, as the calls take them: a struct of them would be made for these alone.
 // Helper: the lists must hold the records of this unit and of its plan and nothing else, packet k be there, the field able to state the
 // payload's length, and `written` must have space for the record.
 pub fn put_record(

@@ -12,7 +12,9 @@ ghost use Rattle.packing.specs.Steps.{record_room, awaits, ReadyAt, Gives, Lent}
 ghost use Rattle.padding.specs.Padded.{padded_in, line_of};
 ghost use Rattle.padding.specs.Steps.{passed, told, out_after, Instead};
 
-use packing::{OBU_LIST_NUMBERS, PLAN_LIST_NUMBERS, Place, Progress, RECORD_BYTES, Turn, Wait};
+use packing::{
+    OBU_LIST_NUMBERS, PLAN_LIST_NUMBERS, Place, Progress, RECORD_BYTES, Turn, UNIT_STORE, Wait,
+};
 use turns::{Came, LINE_BYTES, Order};
 
 // The line of unit k at the front of the bytes lent, and how many it has.
@@ -79,7 +81,7 @@ fn instead(turn: Turn, input: &[u8], obus: &[u32], written: &mut [u8; RECORD_BYT
 pub fn step(
     place: Place,
     came: Came,
-    input: &[u8],
+    input: &[u8; UNIT_STORE],
     obus: &mut [u32; OBU_LIST_NUMBERS],
     plan: &mut [u32; PLAN_LIST_NUMBERS],
     written: &mut [u8; RECORD_BYTES],

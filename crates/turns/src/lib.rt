@@ -4,7 +4,7 @@
 ghost use Rattle.std.specs.Prelude.{◌≡◌, ◌+◌, ◌≤◌, true, false, length};
 ghost use Rattle.base.specs.Lists.{front, Put};
 ghost use Rattle.base.specs.Words.{words_most};
-ghost use Rattle.turns.specs.Text.{line_bytes, most_digits, decimal, labelled, subject_text, refusal_text, word_text, line_text};
+ghost use Rattle.turns.specs.Text.{most_digits, decimal, labelled, subject_text, refusal_text, word_text, line_text};
 ghost use Rattle.turns.specs.Orders.{next_count};
 
 // What a program does before its next step, in this order: so many bytes at the front of its output go to standard output, so many
@@ -131,7 +131,7 @@ pub fn put_labelled(words: &[u8], n: u64, line: &mut [u8], at: usize) -> usize
     put_decimal(n, line, behind)
 }
 
-// What the line is of, at its front.
+// What the line is of, at its front. Put and not displayed, here and below: each byte is promised, and where the cursor then stands.
 fn put_subject(subject: Subject, line: &mut [u8; LINE_BYTES]) -> usize
     ensures { Put line.old line.new 0 result (subject_text subject) }
 {

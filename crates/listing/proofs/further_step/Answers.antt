@@ -21,7 +21,7 @@ returns-in-Err c = let a = c.args in
 
 pub returns-in-Ok : goal.returns-in-Ok
 returns-in-Ok c = let a = c.args in
-    let q = c.in-Ok.field-0 in
+    let q = c.in-Ok.planned in
     let e = sym (ap paper_at c.in-Ok.is) ∙ ap (λ (x : After). x.answer) c.plan_unit.ensures in
     let w = wrote (counted a.place q.obus q.packets) _ _ 0 (told_counts a.place a.unit.now a.obus.now a.plan.now (omega arith) (omega arith) a.got.now (search rules) e) refl c.ask.ensures
     c.put_two-end-in-Ok.ensures (omega arith) in

@@ -1,4 +1,4 @@
-use Rattle.std.proofs.Common.{ℕ, ◌+◌, refl, sym, ap, ◌∙◌, arith}
+use Rattle.std.proofs.Common.{◌+◌, refl, sym, ap, ◌∙◌, arith}
 use Rattle.base.specs.Lists.{front}
 use Rattle.payloader.proofs.Starts.{left_some}
 use Rattle.train.specs.declared.TrainHead.{TrainHead}

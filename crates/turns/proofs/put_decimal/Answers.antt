@@ -1,4 +1,4 @@
-use Rattle.std.proofs.Common.{◌∙◌, arith, rules}
+use Rattle.std.proofs.Common.{◌∙◌, rules}
 use Rattle.turns.specs.Text.{most_digits}
 use Rattle.turns.proofs.Digits.{digits_are, digits_most}
 use Rattle.turns.proofs.put_decimal.Goals as goal

@@ -1,4 +1,4 @@
-use Rattle.std.proofs.Common.{arith, refl}
+use Rattle.std.proofs.Common.{arith}
 use Rattle.base.specs.Lists.{Put}
 use Rattle.base.proofs.Lists.{put_then}
 use Rattle.listing.specs.Listing.{two_numbers}

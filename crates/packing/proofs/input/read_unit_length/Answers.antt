@@ -1,4 +1,4 @@
-use Rattle.std.proofs.Common.{rules, eqb-true, arith}
+use Rattle.std.proofs.Common.{rules, arith}
 use Rattle.packing.proofs.Reading.{length_none, length_cut, length_over, length_stated}
 use Rattle.packing.proofs.input.read_unit_length.Goals as goal
 

@@ -1,7 +1,6 @@
-use Rattle.std.proofs.Common.{rules, ap, ◌∙◌, sym, true-eqb, ne_eqb}
-use Rattle.std.specs.Option.{option_copied}
-use Rattle.packing.specs.Pack.{version_in, version_with}
-use Rattle.packing.proofs.Reading.{version_at, version_first}
+use Rattle.std.proofs.Common.{rules}
+use Rattle.packing.specs.Pack.{version_with}
+use Rattle.packing.proofs.Reading.{version_first}
 use Rattle.packing.proofs.input.read_version.Goals as goal
 
 pub returns-in_err-first : goal.returns-in_err-first

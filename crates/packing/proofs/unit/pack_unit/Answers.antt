@@ -1,10 +1,10 @@
-use Rattle.std.proofs.Common.{◌≡◌, ℕ, ◌/◌, length, take, sym, ap, ◌∙◌, arith, length-take-le, rules}
+use Rattle.std.proofs.Common.{◌/◌, length, take, sym, ap, ◌∙◌, arith, length-take-le}
 use Rattle.std.proofs.lemmas.Result.{err_from_is_err_and}
 use Rattle.base.specs.Answers.{paper_at}
 use Rattle.packetizer.specs.Call.{After}
 use Rattle.obu.specs.Records.{obu_numbers}
 use Rattle.packetizer.specs.Records.{plan_numbers}
-use Rattle.packing.specs.Pack.{answer_in, unit_in}
+use Rattle.packing.specs.Pack.{answer_in}
 use Rattle.packing.proofs.Units.{answer_is, unit_ready, begins_as, unit_cut, unit_planned}
 use Rattle.packing.proofs.unit.pack_unit.Goals as goal
 

@@ -1,4 +1,4 @@
-use Rattle.std.proofs.Common.{ℕ, ◌&&◌, eqb, List, length, sym, ap, ◌∙◌, subst, arith}
+use Rattle.std.proofs.Common.{ℕ, ◌&&◌, eqb, List, length, ap, ◌∙◌, subst, arith}
 use lib.Seq.{length-sets}
 use Rattle.obu.specs.declared.Obu.{Obu}
 use Rattle.packetizer.specs.Call.{unit_plan}
