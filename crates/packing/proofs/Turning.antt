@@ -5,7 +5,7 @@ use Rattle.base.specs.Lists.{front}
 use Rattle.turns.specs.Orders.{Told, Turned, Came, arrival}
 use Rattle.turns.specs.declared.Order.{Order}
 use Rattle.turns.specs.declared.Turn.{Turn}
-use Rattle.packing.specs.Pack.{unit_store, Version, Head, Length}
+use Rattle.packing.specs.Pack.{unit_store}
 use Rattle.packing.specs.Steps.{record_room, told_by, told, Ready, ReadyBy, ReadyAt, Still, Gives}
 use Rattle.packing.specs.declared.unit.Progress.{Progress}
 use Rattle.packing.specs.declared.Wait.{Wait}
