@@ -77,7 +77,7 @@ fn read_once<R: Read>(from: &mut R, input: &mut [u8]) -> io::Result<usize>
     Err(io::Error::new(ErrorKind::TimedOut, "interrupted each time"))
 }
 
-// One write; an interrupted one is tried again.
+// One write; an interrupted one is tried again. One function over a closure for both would have to say what the closure reads or writes.
 fn write_once<W: Write>(to: &mut W, bytes: &[u8]) -> io::Result<usize>
     ensures within { WritesAtMost result bytes.now }
     ensures ok { IfOk result (λ n. Appends (W.contents to.old) (W.contents to.new) (take n bytes.now)) }

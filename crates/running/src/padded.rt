@@ -16,7 +16,7 @@ const WRITTEN: usize = packing::RECORD_BYTES;
 
 const LINE: usize = turns::LINE_BYTES;
 
-// The run, and what its steps are lent.
+// The run, and what its steps are lent. `pack` has the like: to share it would take one more trait, over the step, and be no shorter.
 #[derive(Drop)]
 struct Padded {
     turn: Turn,

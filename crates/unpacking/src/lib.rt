@@ -225,6 +225,7 @@ fn written_subject(k: u64) -> Subject
 }
 
 // The next turn, by what came of the one before: all that `unpack` decides.
+// Input, store and output are slices: that they have these lengths is a fact that a caller proves, and not only a type.
 // Helper: every store must have exactly its length (L14, L15), no more bytes may have come than the input holds, and the width must be
 // one that a train has.
 pub fn step(

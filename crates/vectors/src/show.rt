@@ -1,8 +1,13 @@
 // What answers are made of: records in decimal, and bytes in hexadecimal capitals.
-ghost use Rattle.std.specs.Prelude.{◌≤◌};
+ghost use Rattle.std.specs.Prelude.{◌≤◌, ◌<◌, length};
 
 use base::{Refusal, RefusedAt};
 use std::io;
+
+// How many bytes are printed at once, and how many digits they have.
+const CHUNK: usize = 2048;
+
+const DIGITS: usize = 2 * CHUNK;
 
 // A refusal by its number.
 pub fn refusal(rt: &impl Print, refused: Refusal) -> io::Result<()> {
@@ -44,10 +49,39 @@ pub fn between(rt: &impl Print, k: usize) -> io::Result<()> {
     print!(rt; "{}", if k == 0 { " " } else { "," })
 }
 
-// Some bytes.
+// A hexadecimal digit, in capitals.
+fn letter(d: u8) -> u8
+    requires { d < 16 }
+{
+    if d < 10 { b'0' + d } else { b'A' - 10 + d }
+}
+
+fn high_letter(b: u8) -> u8 {
+    letter(b / 16)
+}
+
+fn low_letter(b: u8) -> u8 {
+    letter(b % 16)
+}
+
+// The digits of some bytes, as far as there is space: how many there are.
+fn put_digits(bytes: &[u8], text: &mut [u8]) -> usize
+    ensures { result ≤ length text.new }
+{
+    let n = bytes.len().min(text.len() / 2);
+    for i in 0..n {
+        text[i * 2] = high_letter(bytes[i]);
+        text[i * 2 + 1] = low_letter(bytes[i]);
+    }
+    n * 2
+}
+
+// Some bytes. Their digits are put together and printed at once, since to print each byte alone took much longer.
 pub fn hex(rt: &impl Print, bytes: &[u8]) -> io::Result<()> {
-    for b in bytes {
-        print!(rt; "{b:02X}")?;
+    for part in bytes.chunks(CHUNK) {
+        let mut digits = [0u8; DIGITS];
+        let n = put_digits(part, &mut digits);
+        rt.write_all(&digits[..n])?;
     }
     Ok(())
 }
