@@ -10,7 +10,6 @@ use Rattle.element.specs.Elements.{bytes_of, padded_by, padded_lengths}
 use Rattle.element.specs.declared.Walked.{Walked}
 use Rattle.handing.specs.Handing.{fragment_limit, wires, padded_sizes}
 use Rattle.handing.specs.Inside.{parts_of, led, between, put_first, handed_of, counted_all, RoomAt, Finishing}
-use Rattle.handing.specs.Paper.{fragment_of}
 use Rattle.handing.specs.declared.Fragment.{Fragment}
 use Rattle.handing.specs.declared.Handed.{Handed}
 use Rattle.handing.proofs.Turns.{counted_given, counted_refused}
@@ -19,7 +18,7 @@ use Rattle.handing.proofs.Cursors.{elements_some}
 use Rattle.receiver.specs.Packet.{Packet, packet_by}
 use Rattle.receiver.specs.Joining.{Held, holding, follows, joinable, with_fragment, lost, finished, left, handed, kept_open, next, out}
 use Rattle.receiver.specs.Call.{Taken, too_long, fitted, padded_in, wired, opened, last_of, held_in, state_by, Inputs, outcome, After, leaves, received}
-use Rattle.receiver.specs.Inside.{IsCut, Opened}
+use Rattle.receiver.specs.Inside.{fragment_of, IsCut, Opened}
 use Rattle.receiver.specs.declared.Cut.{Cut}
 use Rattle.receiver.specs.declared.Received.{Received}
 use Rattle.receiver.proofs.Opens.{LeftOpen, left_is, read_count, read_first, joined_is, lost_is, finished_is}

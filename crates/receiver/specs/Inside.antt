@@ -4,12 +4,16 @@ use Rattle.base.specs.Answers.{given}
 use Rattle.element.specs.Elements.{payload_elements}
 use Rattle.element.specs.Paper.{walked_of}
 use Rattle.element.specs.declared.Walked.{Walked}
-use Rattle.handing.specs.Inside.{parts_of}
+use Rattle.handing.specs.Inside.{across, parts_of}
 use Rattle.handing.specs.declared.Fragment.{Fragment}
 use Rattle.receiver.specs.Joining.{Label, ahead, follows}
 use Rattle.receiver.specs.Call.{Inputs, too_long, last_of, held_in}
 use Rattle.receiver.specs.declared.State.{State}
 use Rattle.receiver.specs.declared.Cut.{Cut}
+
+-- the bytes of a fragment
+abbrev pub fragment_of : List ℕ → List ℕ → Fragment → List ℕ
+fragment_of store payload f = across store f.kept payload f.start f.size
 
 -- how many bytes of the store the first element joins
 abbrev pub kept_bytes : State → Label → Bool → ℕ
