@@ -4,6 +4,7 @@
 pub mod pack;
 pub mod padded;
 pub mod planlist;
+mod units;
 pub mod unpack;
 
 ghost use Rattle.std.specs.Prelude.{◌≡◌, ◌≢◌, ◌<◌, take, length, IsTrue, IfOk, IfErr, OnErr};
