@@ -34,7 +34,7 @@ pub trait Step {
         ensures { Goes result input.now obus.new plan.new };
 }
 
-// The run, and what its steps are lent.
+// The run, and what its steps are lent. `planlist` and `unpack` have other stores and places, so that to share more would be no plainer.
 #[derive(Drop)]
 struct Units<S> {
     turn: Turn,
