@@ -1,67 +1,27 @@
 // The loop of `pack` (G2 to G4, G6, G7, G12, G14).
-ghost use Rattle.packing.specs.Steps.{Goes};
-
-use crate::{Program, Streams};
-use packing::Turn;
+use crate::Streams;
+use crate::units::{INPUT, LINE, OBUS, PLAN, Step, WRITTEN};
+use packing::{Place, Turn};
 use std::io::{Read, Write};
+use turns::Came;
 
-// What a step is lent (L12 to L14).
-const INPUT: usize = packing::UNIT_STORE;
+// Its step.
+struct Packing;
 
-const OBUS: usize = packing::OBU_LIST_NUMBERS;
-
-const PLAN: usize = packing::PLAN_LIST_NUMBERS;
-
-const WRITTEN: usize = packing::RECORD_BYTES;
-
-const LINE: usize = turns::LINE_BYTES;
-
-// The run, and what its steps are lent.
-#[derive(Drop)]
-struct Pack {
-    turn: Turn,
-    input: [u8; INPUT],
-    obus: [u32; OBUS],
-    plan: [u32; PLAN],
-    written: [u8; WRITTEN],
-    line: [u8; LINE],
-}
-
-impl Program for Pack {
-    ghost can_go = { λ s. Goes s.turn s.input s.obus s.plan };
-
-    fn goes_on(&self) -> bool {
-        self.turn.order.more
-    }
-
-    fn next<R: Read, W: Write, E: Write>(&mut self, streams: &mut Streams<R, W, E>) {
-        let came = crate::obey(
-            self.turn.order,
-            streams,
-            &mut self.input,
-            &self.written,
-            &self.line,
-        );
-        self.turn = packing::step(
-            self.turn.place,
-            came,
-            &self.input,
-            &mut self.obus,
-            &mut self.plan,
-            &mut self.written,
-            &mut self.line,
-        );
+impl Step for Packing {
+    fn step(
+        place: Place,
+        came: Came,
+        input: &[u8; INPUT],
+        obus: &mut [u32; OBUS],
+        plan: &mut [u32; PLAN],
+        written: &mut [u8; WRITTEN],
+        line: &mut [u8; LINE],
+    ) -> Turn {
+        packing::step(place, came, input, obus, plan, written, line)
     }
 }
 
 pub fn run<R: Read, W: Write, E: Write>(streams: &mut Streams<R, W, E>) {
-    let mut program = Pack {
-        turn: packing::start(),
-        input: [0; INPUT],
-        obus: [0; OBUS],
-        plan: [0; PLAN],
-        written: [0; WRITTEN],
-        line: [0; LINE],
-    };
-    crate::run_all(&mut program, streams);
+    crate::units::run::<Packing, R, W, E>(streams);
 }
