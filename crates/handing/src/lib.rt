@@ -3,7 +3,7 @@
 
 mod obu_bytes; // obu_bytes.rt: the bytes of an OBU
 
-ghost use Rattle.std.specs.Prelude.{◌≡◌, ◌+◌, ◌≤◌, true, cond, length, drop};
+ghost use Rattle.std.specs.Prelude.{◌≡◌, ◌+◌, ◌≤◌, Bool, true, false, cond, length, drop};
 ghost use Rattle.base.specs.Lists.{replaced};
 ghost use Rattle.base.specs.Answers.{paper};
 ghost use Rattle.obu.specs.Front.{start_of, span_of};
@@ -36,21 +36,43 @@ pub struct Handed {
     pub padded: usize,
 }
 
-// Writes an OBU as it goes out: header bytes, shortest size field, payload.
-fn put_obu(o: Across, head: Head, out: &mut [u8], at: usize)
-    requires spans { span_of (paper_head head) ≡ length (all_of o) }
-    requires fits { at + length (framed head.header head.extension (drop (start_of (paper_head head)) (all_of o))) ≤ length out.old }
-    ensures { out.new ≡ replaced out.old at (framed head.header head.extension (drop (start_of (paper_head head)) (all_of o.entry))) }
-{
-    let field = obu::put_header(out, at, head.header, head.extension);
-    let body = leb128::put_leb128(out, field, head.payload as u32);
-    o.copy(obu::header_size(head.header) + head.field, out, body);
+// What becomes of an OBU that goes out: header bytes, shortest size field, payload.
+trait Output {
+    ghost written: { Bool };
+
+    // Takes it, to stand from `at` on.
+    fn put(o: Across, head: Head, out: &mut [u8], at: usize)
+        requires spans { span_of (paper_head head) ≡ length (all_of o) }
+        requires fits { written ≡ true → at + length (framed head.header head.extension (drop (start_of (paper_head head)) (all_of o))) ≤ length out.old }
+        ensures { out.new ≡ cond written (replaced out.old at (framed head.header head.extension (drop (start_of (paper_head head)) (all_of o.entry)))) out.old };
 }
 
-// One finished OBU: judged, counted, and written at the cursor `at` where told to.
-fn finish_obu(o: Across, out: &mut [u8], at: usize, write: bool) -> Result<Handed, Refusal>
-    requires { write ≡ true → RoomAt (length out.old) at (wire (all_of o)) }
-    ensures { (paper result ≡ counted_one (all_of o.entry)) × (out.new ≡ cond write (put_at out.old at (wire (all_of o.entry))) out.old) }
+// It is counted, and no more.
+struct Counted;
+
+impl Output for Counted {
+    ghost written = { false };
+
+    fn put(_o: Across, _head: Head, _out: &mut [u8], _at: usize) {}
+}
+
+// It is written.
+struct Written;
+
+impl Output for Written {
+    ghost written = { true };
+
+    fn put(o: Across, head: Head, out: &mut [u8], at: usize) {
+        let field = obu::put_header(out, at, head.header, head.extension);
+        let body = leb128::put_leb128(out, field, head.payload as u32);
+        o.copy(obu::header_size(head.header) + head.field, out, body);
+    }
+}
+
+// One finished OBU: judged, counted, and put at the cursor `at`.
+fn finish_obu<O: Output>(o: Across, out: &mut [u8], at: usize) -> Result<Handed, Refusal>
+    requires { O.written ≡ true → RoomAt (length out.old) at (wire (all_of o)) }
+    ensures { (paper result ≡ counted_one (all_of o.entry)) × (out.new ≡ cond O.written (put_at out.old at (wire (all_of o.entry))) out.old) }
 {
     let head = o.judge()?;
     let field = leb128::leb128_size(head.payload as u32);
@@ -58,16 +80,14 @@ fn finish_obu(o: Across, out: &mut [u8], at: usize, write: bool) -> Result<Hande
     if obu::should_ignore_obu_type(obu::obu_type(head.header)) {
         return Ok(Handed { bytes: 0, padded });
     }
-    if write {
-        put_obu(o, head, out, at);
-    }
+    O::put(o, head, out, at);
     let bytes = obu::header_size(head.header) + field + head.payload;
     Ok(Handed { bytes, padded })
 }
 
-// Elements `from` up to `to`, each finishing an OBU, the first with `joined` bytes of the store in front: counted, and written where told to.
-// One loop with a flag for both, so that what is written is what was counted.
-fn hand_out(
+// Elements `from` up to `to`, each finishing an OBU, the first with `joined` bytes of the store in front: counted, and put into the output.
+// One loop for both outputs, so that what is written is what was counted.
+fn hand_out<O: Output>(
     payload: &[u8],
     cursor: usize,
     from: usize,
@@ -75,12 +95,11 @@ fn hand_out(
     store: &[u8],
     joined: usize,
     out: &mut [u8],
-    write: bool,
 ) -> Result<Handed, Refusal>
     requires finishing { Finishing payload.now cursor from to store.now joined }
-    requires room_at { write ≡ true → RoomAt (length out.old) 0 (wires (between store.now joined payload.now from to)) }
+    requires room_at { O.written ≡ true → RoomAt (length out.old) 0 (wires (between store.now joined payload.now from to)) }
     ensures { (paper result ≡ counted_all (between store.now joined payload.now from to))
-        × (out.new ≡ cond write (put_first out.old (wires (between store.now joined payload.now from to))) out.old) }
+        × (out.new ≡ cond O.written (put_first out.old (wires (between store.now joined payload.now from to))) out.old) }
 {
     let w = element::header_w(payload[0]);
     let mut at = cursor;
@@ -92,7 +111,7 @@ fn hand_out(
             stored: &store[..kept],
             element: &payload[part.start..part.next],
         };
-        let one = finish_obu(o, out, sum.bytes, write)?;
+        let one = finish_obu::<O>(o, out, sum.bytes)?;
         sum.bytes += one.bytes;
         sum.padded += one.padded;
         kept = 0;
@@ -111,16 +130,14 @@ pub fn count_out(
     to: usize,
     store: &[u8],
     joined: usize,
-    out: &mut [u8],
 ) -> Result<Handed, Refusal>
     requires { Finishing payload.now cursor from to store.now joined }
-    ensures { (paper result ≡ counted_all (between store.now joined payload.now from to))
-        × (out.new ≡ out.old) }
+    ensures { paper result ≡ counted_all (between store.now joined payload.now from to) }
 {
     if to <= from {
         return Ok(Handed::default());
     }
-    hand_out(payload, cursor, from, to, store, joined, out, false)
+    hand_out::<Counted>(payload, cursor, from, to, store, joined, &mut [])
 }
 
 // Writes them first into the output.
@@ -142,5 +159,5 @@ pub fn write_out(
         return;
     }
     // it was counted, so there is no refusal
-    let _ = hand_out(payload, cursor, from, to, store, joined, out, true);
+    let _ = hand_out::<Written>(payload, cursor, from, to, store, joined, out);
 }

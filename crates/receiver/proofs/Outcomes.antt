@@ -26,8 +26,8 @@ long_not {space} {size} = go (ltb space size) refl (ltb fragment_limit size) ref
 
 module _ (i : Inputs) where
   -- a refusal leaves all as it was
-  pub leaves_refused : {n a : ℕ} {output : List ℕ} → outcome i ≡ refused n a → output ≡ i.output → leaves (refused n a) i.store output ≡ received i
-  leaves_refused e f = rw (e, f)
+  pub leaves_refused : {n a : ℕ} → outcome i ≡ refused n a → leaves (refused n a) i.store i.output ≡ received i
+  leaves_refused e = rw e refl
 
   -- ---- R13, R14
 

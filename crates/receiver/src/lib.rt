@@ -159,9 +159,7 @@ fn take_packet(
 {
     let cut = state.cut(number, payload[0], all);
     let left = cut.left;
-    let handed = handing::count_out(
-        payload, cut.cursor, cut.from, cut.to, store, cut.joined, out,
-    )?;
+    let handed = handing::count_out(payload, cut.cursor, cut.from, cut.to, store, cut.joined)?;
     let open = left.kept + left.size;
     if too_long(open, store.len()) {
         return Err(Refusal::FragmentTooLong);

@@ -9,4 +9,4 @@ use Rattle.handing.proofs.count_out.Goals as goal
 pub returns-then-to-from : goal.returns-then-to-from
 returns-then-to-from c =
     let e : c.default.result ≡ handed_of 0 [] = search rules in
-    rw e (handing_end (handing_first c.requires false _) c.requires c.if-to-from.true)
+    rw e (handing_end (handing_first c.requires false []) c.requires c.if-to-from.true).0

@@ -8,67 +8,67 @@ use Rattle.handing.proofs.Turns.{handing_end, handing_stands, handing_turn, hand
 use Rattle.handing.proofs.hand_out.Goals as goal
 
 pub bounds-payload-0 : goal.bounds-payload-0
-bounds-payload-0 c = payload_some c.args.payload.now (parts_of c.args.payload.now) c.requires.finishing.whole
+bounds-payload-0 g c = payload_some c.args.payload.now (parts_of c.args.payload.now) c.requires.finishing.whole
 
 pub part_at-part-requires : goal.part_at-part-requires
-part_at-part-requires c = handing_stands c.loop-i.invariant c.requires.finishing c.loop-i-test.true c.header_w-w.ensures c.has_field.ensures
+part_at-part-requires g c = handing_stands c.loop-i.invariant c.requires.finishing c.loop-i-test.true c.header_w-w.ensures c.has_field.ensures
 
 pub slice_bounds-o-count : goal.slice_bounds-o-count
-slice_bounds-o-count c =
+slice_bounds-o-count g c =
     let t = handing_turn c.loop-i.invariant c.requires.finishing c.loop-i-test.true c.header_w-w.ensures c.has_field.ensures c.part_at-part.ensures in
     let l = handing_part c.loop-i.invariant c.requires.finishing t in
     omega arith
 
 pub slice_bounds-o-start : goal.slice_bounds-o-start
-slice_bounds-o-start c =
+slice_bounds-o-start g c =
     let t = handing_turn c.loop-i.invariant c.requires.finishing c.loop-i-test.true c.header_w-w.ensures c.has_field.ensures c.part_at-part.ensures in
     let l = handing_part c.loop-i.invariant c.requires.finishing t in
     let h : c.part_at-part.result.start ≤ c.part_at-part.result.next = omega arith in
     h
 
 pub slice_bounds-o-end-in-loop-i : goal.slice_bounds-o-end-in-loop-i
-slice_bounds-o-end-in-loop-i c =
+slice_bounds-o-end-in-loop-i g c =
     let t = handing_turn c.loop-i.invariant c.requires.finishing c.loop-i-test.true c.header_w-w.ensures c.has_field.ensures c.part_at-part.ensures in
     let l = handing_part c.loop-i.invariant c.requires.finishing t in
     l.within
 
 pub invariant_of-o : goal.invariant_of-o
-invariant_of-o c =
+invariant_of-o g c =
     let t = handing_turn c.loop-i.invariant c.requires.finishing c.loop-i-test.true c.header_w-w.ensures c.has_field.ensures c.part_at-part.ensures in
     let h = handing_lent c.loop-i.invariant c.requires.finishing t in
     record { some = h.1; small = h.2 }
 
 pub finish_obu-requires : goal.finish_obu-requires
-finish_obu-requires c =
+finish_obu-requires g c =
     let t = handing_turn c.loop-i.invariant c.requires.finishing c.loop-i-test.true c.header_w-w.ensures c.has_field.ensures c.part_at-part.ensures in
     handing_room c.loop-i.invariant c.requires.finishing t c.requires.room_at
 
 pub returns-in_err-one : goal.returns-in_err-one
-returns-in_err-one c =
+returns-in_err-one g c =
     let t = handing_turn c.loop-i.invariant c.requires.finishing c.loop-i-test.true c.header_w-w.ensures c.has_field.ensures c.part_at-part.ensures in
     let h = handing_broken c.loop-i.invariant c.requires.finishing t c.requires.room_at
     (counted_refused _ _ c.in_err-one.ensures.0) c.finish_obu.ensures.1 in
     (search rules, h.1)
 
 pub overflow_add-sum : goal.overflow_add-sum
-overflow_add-sum c =
+overflow_add-sum g c =
     let t = handing_turn c.loop-i.invariant c.requires.finishing c.loop-i-test.true c.header_w-w.ensures c.has_field.ensures c.part_at-part.ensures in
     let b = counted_given _ c.in_ok-one.ensures.0 in
     let h = handing_fits c.loop-i.invariant c.requires.finishing t b.1 b.2 in
     omega arith
 
 pub overflow_add-sum-in-loop-i : goal.overflow_add-sum-in-loop-i
-overflow_add-sum-in-loop-i c =
+overflow_add-sum-in-loop-i g c =
     let t = handing_turn c.loop-i.invariant c.requires.finishing c.loop-i-test.true c.header_w-w.ensures c.has_field.ensures c.part_at-part.ensures in
     let b = counted_given _ c.in_ok-one.ensures.0 in
     let h = handing_fits c.loop-i.invariant c.requires.finishing t b.1 b.2 in
     omega arith
 
 pub loop-i-preserved : goal.loop-i-preserved
-loop-i-preserved c =
+loop-i-preserved g c =
     let t = handing_turn c.loop-i.invariant c.requires.finishing c.loop-i-test.true c.header_w-w.ensures c.has_field.ensures c.part_at-part.ensures in
     let b = counted_given _ c.in_ok-one.ensures.0 in
     handing_next c.loop-i.invariant c.requires.finishing t b.1 b.2 refl c.finish_obu.auto.out c.finish_obu.ensures.1
 
 pub returns : goal.returns
-returns c = handing_end c.loop-i.invariant c.requires.finishing c.loop-i-test.false
+returns g c = handing_end c.loop-i.invariant c.requires.finishing c.loop-i-test.false
