@@ -1,5 +1,5 @@
 -- The receive call's definition, by the tests that the code makes. Assumes nothing.
-use Rattle.std.proofs.Common.{◌≡◌, ℕ, ◌≤◌, Bool, true, false, cond, ◌||◌, ltb, List, length, refl, ◌∙◌, arith, ltb-false, le-ltb, ne_eqb}
+use Rattle.std.proofs.Common.{◌≡◌, ℕ, ◌≤◌, Bool, true, false, cond, ◌||◌, ltb, length, refl, ◌∙◌, arith, ltb-false, le-ltb, ne_eqb}
 use Rattle.base.specs.Answers.{refused}
 use Rattle.element.specs.Elements.{payload_limit}
 use Rattle.element.specs.declared.Walked.{Walked}
