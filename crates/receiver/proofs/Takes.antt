@@ -10,7 +10,7 @@ use Rattle.element.specs.Elements.{bytes_of, padded_by, padded_lengths}
 use Rattle.element.specs.declared.Walked.{Walked}
 use Rattle.handing.specs.Handing.{fragment_limit, wires, padded_sizes}
 use Rattle.handing.specs.Inside.{parts_of, led, between, put_first, handed_of, counted_all, RoomAt, Finishing}
-use Rattle.handing.specs.declared.Fragment.{Fragment}
+use Rattle.receiver.specs.declared.Fragment.{Fragment}
 use Rattle.handing.specs.declared.Handed.{Handed}
 use Rattle.handing.proofs.Turns.{counted_given, counted_refused}
 use Rattle.handing.proofs.Across.{across_length}
