@@ -1,3 +1,4 @@
+pub mod Finished
 pub mod Handing
 pub mod Inside
 pub mod Paper

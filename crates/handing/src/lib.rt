@@ -3,14 +3,14 @@
 
 mod obu_bytes; // obu_bytes.rt: the bytes of an OBU
 
-ghost use Rattle.std.specs.Prelude.{◌≡◌, ◌+◌, ◌≤◌, true, cond, length, drop};
+ghost use Rattle.std.specs.Prelude.{◌≡◌, ◌+◌, ◌≤◌, Bool, true, false, cond, length, drop};
 ghost use Rattle.base.specs.Lists.{replaced};
 ghost use Rattle.base.specs.Answers.{paper};
 ghost use Rattle.obu.specs.Front.{start_of, span_of};
 ghost use Rattle.obu.specs.Wire.{framed, wire};
 ghost use Rattle.obu.specs.Paper.{paper_head};
 ghost use Rattle.handing.specs.Handing.{wires};
-ghost use Rattle.handing.specs.Inside.{counted_one, counted_all, RoomAt, put_at, put_first, between, Finishing};
+ghost use Rattle.handing.specs.Inside.{counted_one, counted_all, RoomAt, put_at, put_first, Finishing};
 ghost use Rattle.handing.specs.Paper.{all_of};
 
 use base::Refusal;
@@ -20,14 +20,6 @@ use obu_bytes::Across;
 // The most bytes of an open fragment.
 pub const FRAGMENT_LIMIT: usize = 1048576;
 
-// Bytes across store and payload: the first `kept` of the store, then `size` of the payload from `start` on.
-#[derive(Clone, Copy)]
-pub struct Fragment {
-    pub kept: usize,
-    pub start: usize,
-    pub size: usize,
-}
-
 // What goes out for finished OBUs: how many bytes; and how many padded size fields they had, those of dropped types too.
 // By default nothing.
 #[derive(Clone, Copy, Default)]
@@ -36,21 +28,43 @@ pub struct Handed {
     pub padded: usize,
 }
 
-// Writes an OBU as it goes out: header bytes, shortest size field, payload.
-fn put_obu(o: Across, head: Head, out: &mut [u8], at: usize)
-    requires spans { span_of (paper_head head) ≡ length (all_of o) }
-    requires fits { at + length (framed head.header head.extension (drop (start_of (paper_head head)) (all_of o))) ≤ length out.old }
-    ensures { out.new ≡ replaced out.old at (framed head.header head.extension (drop (start_of (paper_head head)) (all_of o.entry))) }
-{
-    let field = obu::put_header(out, at, head.header, head.extension);
-    let body = leb128::put_leb128(out, field, head.payload as u32);
-    o.copy(obu::header_size(head.header) + head.field, out, body);
+// What becomes of an OBU that goes out: header bytes, shortest size field, payload.
+trait Output {
+    ghost written: { Bool };
+
+    // Takes it, to stand from `at` on.
+    fn put(o: Across, head: Head, out: &mut [u8], at: usize)
+        requires spans { span_of (paper_head head) ≡ length (all_of o) }
+        requires fits { written ≡ true → at + length (framed head.header head.extension (drop (start_of (paper_head head)) (all_of o))) ≤ length out.old }
+        ensures { out.new ≡ cond written (replaced out.old at (framed head.header head.extension (drop (start_of (paper_head head)) (all_of o.entry)))) out.old };
 }
 
-// One finished OBU: judged, counted, and written at the cursor `at` where told to.
-fn finish_obu(o: Across, out: &mut [u8], at: usize, write: bool) -> Result<Handed, Refusal>
-    requires { write ≡ true → RoomAt (length out.old) at (wire (all_of o)) }
-    ensures { (paper result ≡ counted_one (all_of o.entry)) × (out.new ≡ cond write (put_at out.old at (wire (all_of o.entry))) out.old) }
+// It is counted, and no more.
+struct Counted;
+
+impl Output for Counted {
+    ghost written = { false };
+
+    fn put(_o: Across, _head: Head, _out: &mut [u8], _at: usize) {}
+}
+
+// It is written.
+struct Written;
+
+impl Output for Written {
+    ghost written = { true };
+
+    fn put(o: Across, head: Head, out: &mut [u8], at: usize) {
+        let field = obu::put_header(out, at, head.header, head.extension);
+        let body = leb128::put_leb128(out, field, head.payload as u32);
+        o.copy(obu::header_size(head.header) + head.field, out, body);
+    }
+}
+
+// One finished OBU: judged, counted, and put at the cursor `at`.
+fn finish_obu<O: Output>(o: Across, out: &mut [u8], at: usize) -> Result<Handed, Refusal>
+    requires { O.written ≡ true → RoomAt (length out.old) at (wire (all_of o)) }
+    ensures { (paper result ≡ counted_one (all_of o.entry)) × (out.new ≡ cond O.written (put_at out.old at (wire (all_of o.entry))) out.old) }
 {
     let head = o.judge()?;
     let field = leb128::leb128_size(head.payload as u32);
@@ -58,89 +72,70 @@ fn finish_obu(o: Across, out: &mut [u8], at: usize, write: bool) -> Result<Hande
     if obu::should_ignore_obu_type(obu::obu_type(head.header)) {
         return Ok(Handed { bytes: 0, padded });
     }
-    if write {
-        put_obu(o, head, out, at);
-    }
+    O::put(o, head, out, at);
     let bytes = obu::header_size(head.header) + field + head.payload;
     Ok(Handed { bytes, padded })
 }
 
-// Elements `from` up to `to`, each finishing an OBU, the first with `joined` bytes of the store in front: counted, and written where told to.
-// One loop with a flag for both, so that what is written is what was counted.
-fn hand_out(
-    payload: &[u8],
-    cursor: usize,
-    from: usize,
-    to: usize,
-    store: &[u8],
-    joined: usize,
-    out: &mut [u8],
-    write: bool,
-) -> Result<Handed, Refusal>
-    requires finishing { Finishing payload.now cursor from to store.now joined }
-    requires room_at { write ≡ true → RoomAt (length out.old) 0 (wires (between store.now joined payload.now from to)) }
-    ensures { (paper result ≡ counted_all (between store.now joined payload.now from to))
-        × (out.new ≡ cond write (put_first out.old (wires (between store.now joined payload.now from to))) out.old) }
-{
-    let w = element::header_w(payload[0]);
-    let mut at = cursor;
-    let mut kept = joined;
-    let mut sum = Handed::default();
-    for i in from..to {
-        let part = element::part_at(payload, at, element::has_field(w, i));
-        let o = Across {
-            stored: &store[..kept],
-            element: &payload[part.start..part.next],
-        };
-        let one = finish_obu(o, out, sum.bytes, write)?;
-        sum.bytes += one.bytes;
-        sum.padded += one.padded;
-        kept = 0;
-        at = part.next;
-    }
-    Ok(sum)
+// Elements `from` up to `to` of a payload, each finishing an OBU: the first begins at `cursor`, and has `joined` bytes of the store in front.
+#[derive(Clone, Copy)]
+pub struct FinishedObus<'a> {
+    pub payload: &'a [u8],
+    pub cursor: usize,
+    pub from: usize,
+    pub to: usize,
+    pub store: &'a [u8],
+    pub joined: usize,
+    ghost finishing: { Finishing payload.now cursor from to store.now joined },
 }
 
-// How many bytes go out for them, and their padded size fields. Most packets of a long OBU finish none.
-// Helper: the payload must be one that is read whole, with `from` and `to` no more than its elements and the cursor where element `from`
-// begins; `joined` must be within the store and within L4.
-pub fn count_out(
-    payload: &[u8],
-    cursor: usize,
-    from: usize,
-    to: usize,
-    store: &[u8],
-    joined: usize,
-    out: &mut [u8],
-) -> Result<Handed, Refusal>
-    requires { Finishing payload.now cursor from to store.now joined }
-    ensures { (paper result ≡ counted_all (between store.now joined payload.now from to))
-        × (out.new ≡ out.old) }
-{
-    if to <= from {
-        return Ok(Handed::default());
-    }
-    hand_out(payload, cursor, from, to, store, joined, out, false)
-}
+impl FinishedObus<'_> {
+    ghost use Rattle.handing.specs.Finished.{obus_of};
 
-// Writes them first into the output.
-// Helper: what `count_out` asks, that it gave no refusal, and that the output has the space.
-pub fn write_out(
-    payload: &[u8],
-    cursor: usize,
-    from: usize,
-    to: usize,
-    store: &[u8],
-    joined: usize,
-    out: &mut [u8],
-)
-    requires finishing { Finishing payload.now cursor from to store.now joined }
-    requires room_at { RoomAt (length out.old) 0 (wires (between store.now joined payload.now from to)) }
-    ensures { out.new ≡ put_first out.old (wires (between store.now joined payload.now from to)) }
-{
-    if to <= from {
-        return;
+    // Each is counted, and put into the output: one loop for both outputs, so that what is written is what was counted.
+    fn hand_out<O: Output>(self, out: &mut [u8]) -> Result<Handed, Refusal>
+        requires { O.written ≡ true → RoomAt (length out.old) 0 (wires (obus_of self)) }
+        ensures { (paper result ≡ counted_all (obus_of self.entry)) × (out.new ≡ cond O.written (put_first out.old (wires (obus_of self.entry))) out.old) }
+    {
+        let w = element::header_w(self.payload[0]);
+        let mut at = self.cursor;
+        let mut kept = self.joined;
+        let mut sum = Handed::default();
+        for i in self.from..self.to {
+            let part = element::part_at(self.payload, at, element::has_field(w, i));
+            let o = Across {
+                stored: &self.store[..kept],
+                element: &self.payload[part.start..part.next],
+            };
+            let one = finish_obu::<O>(o, out, sum.bytes)?;
+            sum.bytes += one.bytes;
+            sum.padded += one.padded;
+            kept = 0;
+            at = part.next;
+        }
+        Ok(sum)
     }
-    // it was counted, so there is no refusal
-    let _ = hand_out(payload, cursor, from, to, store, joined, out, true);
+
+    // How many bytes go out for them, and their padded size fields. Most packets of a long OBU finish none.
+    pub fn count(self) -> Result<Handed, Refusal>
+        ensures { paper result ≡ counted_all (obus_of self.entry) }
+    {
+        if self.to <= self.from {
+            return Ok(Handed::default());
+        }
+        self.hand_out::<Counted>(&mut [])
+    }
+
+    // Writes them first into the output.
+    // Helper: `count` must have given no refusal, and the output must have the space.
+    pub fn write(self, out: &mut [u8])
+        requires { RoomAt (length out.old) 0 (wires (obus_of self)) }
+        ensures { out.new ≡ put_first out.old (wires (obus_of self.entry)) }
+    {
+        if self.to <= self.from {
+            return;
+        }
+        // it was counted, so there is no refusal
+        let _ = self.hand_out::<Written>(out);
+    }
 }

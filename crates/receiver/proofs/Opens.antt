@@ -8,7 +8,7 @@ use Rattle.element.specs.Elements.{bytes_of, nowhere}
 use Rattle.element.specs.declared.Part.{Part}
 use Rattle.element.specs.declared.Walked.{Walked}
 use Rattle.handing.specs.Inside.{parts_of, led}
-use Rattle.handing.specs.declared.Fragment.{Fragment}
+use Rattle.receiver.specs.declared.Fragment.{Fragment}
 use Rattle.handing.proofs.Cursors.{part_at}
 use Rattle.handing.proofs.Turns.{led_none}
 use Rattle.receiver.specs.Joining.{with_fragment, some, finished, left}

@@ -1,5 +1,5 @@
 -- The receive call's definition, by the tests that the code makes. Assumes nothing.
-use Rattle.std.proofs.Common.{◌≡◌, ℕ, ◌≤◌, Bool, true, false, cond, ◌||◌, ltb, List, length, refl, ◌∙◌, arith, ltb-false, le-ltb, ne_eqb}
+use Rattle.std.proofs.Common.{◌≡◌, ℕ, ◌≤◌, Bool, true, false, cond, ◌||◌, ltb, length, refl, ◌∙◌, arith, ltb-false, le-ltb, ne_eqb}
 use Rattle.base.specs.Answers.{refused}
 use Rattle.element.specs.Elements.{payload_limit}
 use Rattle.element.specs.declared.Walked.{Walked}
@@ -26,8 +26,8 @@ long_not {space} {size} = go (ltb space size) refl (ltb fragment_limit size) ref
 
 module _ (i : Inputs) where
   -- a refusal leaves all as it was
-  pub leaves_refused : {n a : ℕ} {output : List ℕ} → outcome i ≡ refused n a → output ≡ i.output → leaves (refused n a) i.store output ≡ received i
-  leaves_refused e f = rw (e, f)
+  pub leaves_refused : {n a : ℕ} → outcome i ≡ refused n a → leaves (refused n a) i.store i.output ≡ received i
+  leaves_refused e = rw e refl
 
   -- ---- R13, R14
 

@@ -10,7 +10,7 @@ use Rattle.element.specs.Elements.{bytes_of, padded_by, padded_lengths}
 use Rattle.element.specs.declared.Walked.{Walked}
 use Rattle.handing.specs.Handing.{fragment_limit, wires, padded_sizes}
 use Rattle.handing.specs.Inside.{parts_of, led, between, put_first, handed_of, counted_all, RoomAt, Finishing}
-use Rattle.handing.specs.declared.Fragment.{Fragment}
+use Rattle.receiver.specs.declared.Fragment.{Fragment}
 use Rattle.handing.specs.declared.Handed.{Handed}
 use Rattle.handing.proofs.Turns.{counted_given, counted_refused}
 use Rattle.handing.proofs.Across.{across_length}
@@ -177,9 +177,8 @@ module _ {i : Inputs} {all : Walked} {c : Cut} (opening : Opened i all) (s : Cut
   left_it = subst (LeftOpen payload y from k) (sym s.left_is) (left_is opening.read from k y)
 
   -- what goes out is counted: a refusal
-  pub taking_broken : {m a : ℕ} {output : List ℕ} → refused m a ≡ counted_all (between store k payload from to) → output ≡ i.output
-      → leaves (refused m a) store output ≡ received i
-  taking_broken e f = leaves_refused i (outcome_is ∙ ap wired_by (counted_refused _ _ e)) f
+  pub taking_broken : {m a : ℕ} → refused m a ≡ counted_all (between store k payload from to) → leaves (refused m a) store i.output ≡ received i
+  taking_broken e = leaves_refused i (outcome_is ∙ ap wired_by (counted_refused _ _ e))
 
   -- or so many bytes
   module _ {had : Handed} (e : given had ≡ counted_all (between store k payload from to)) where
@@ -204,15 +203,15 @@ module _ {i : Inputs} {all : Walked} {c : Cut} (opening : Opened i all) (s : Cut
     outcome_given : outcome i ≡ fitted space room (leads bytes)
     outcome_given = outcome_is ∙ ap wired_by given_bytes.1
 
-    pub taking_long : {output : List ℕ} → too_long space (r.kept + r.size) ≡ true → output ≡ i.output → leaves (refused 19 0) store output ≡ received i
-    taking_long h f = leaves_refused i (outcome_given ∙ fitted_long space room (leads bytes) (rw fragment_length at h)) f
+    pub taking_long : too_long space (r.kept + r.size) ≡ true → leaves (refused 19 0) store i.output ≡ received i
+    taking_long h = leaves_refused i (outcome_given ∙ fitted_long space room (leads bytes) (rw fragment_length at h))
 
     module _ (h : too_long space (r.kept + r.size) ≡ false) where
       fits : too_long space (length (left y js)) ≡ false
       fits = rw fragment_length at h
 
-      pub taking_output : {output : List ℕ} → output ≡ i.output → length output < had.bytes → leaves (refused 20 0) store output ≡ received i
-      taking_output f o = leaves_refused i (outcome_given ∙ fitted_output space room (leads bytes) fits (omega (arith, bytes_length, ap length f))) f
+      pub taking_output : room < had.bytes → leaves (refused 20 0) store i.output ≡ received i
+      taking_output o = leaves_refused i (outcome_given ∙ fitted_output space room (leads bytes) fits (omega (arith, bytes_length)))
 
       -- the bytes of the fragment stored, behind those that are there already
       kept_stored : {store' : List ℕ} → store' ≡ sets store r.kept (take r.size (drop r.start payload)) → store' ≡ front (left y js) store
@@ -225,8 +224,8 @@ module _ {i : Inputs} {all : Walked} {c : Cut} (opening : Opened i all) (s : Cut
           ∙ ap (λ (x : ℕ). fragment_of store payload r ++ drop x store) m
           ∙ ap (λ (x : List ℕ). front x store) (left_it.bytes store)
 
-      pub taking_all : {counted store' output : List ℕ} → counted ≡ i.output → had.bytes ≤ length counted
-          → store' ≡ sets store r.kept (take r.size (drop r.start payload)) → output ≡ put_first counted (wires (between store k payload from to))
+      pub taking_all : {store' output : List ℕ} → had.bytes ≤ room
+          → store' ≡ sets store r.kept (take r.size (drop r.start payload)) → output ≡ put_first i.output (wires (between store k payload from to))
           → leaves
           (given
           (record {
@@ -237,10 +236,10 @@ module _ {i : Inputs} {all : Walked} {c : Cut} (opening : Opened i all) (s : Cut
             element_lost = ltb 0 from;
           }))
           store' output ≡ received i
-      taking_all {output = output} f o g p =
+      taking_all {output = output} o g p =
           let t : outcome i ≡ given (leads bytes) =
-          outcome_given ∙ fitted_all space room (leads bytes) fits (omega (arith, bytes_length, ap length f)) in
-          let q : output ≡ front bytes i.output = p ∙ ap₂ put_first f given_bytes.1 in
+          outcome_given ∙ fitted_all space room (leads bytes) fits (omega (arith, bytes_length)) in
+          let q : output ≡ front bytes i.output = p ∙ ap (put_first i.output) given_bytes.1 in
           rw (t, kept_stored g, q, fragment_length)
           (ap (λ (x : Handed). gives x.bytes x.padded) given_bytes.2)
         where

@@ -5,7 +5,7 @@ use Rattle.element.specs.Elements.{payload_elements}
 use Rattle.element.specs.Paper.{walked_of}
 use Rattle.element.specs.declared.Walked.{Walked}
 use Rattle.handing.specs.Inside.{across, parts_of}
-use Rattle.handing.specs.declared.Fragment.{Fragment}
+use Rattle.receiver.specs.declared.Fragment.{Fragment}
 use Rattle.receiver.specs.Joining.{Label, ahead, follows}
 use Rattle.receiver.specs.Call.{Inputs, too_long, last_of, held_in}
 use Rattle.receiver.specs.declared.State.{State}

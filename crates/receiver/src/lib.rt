@@ -10,7 +10,7 @@ ghost use Rattle.base.specs.Answers.{paper};
 
 use base::Refusal;
 use element::Walked;
-use handing::Fragment;
+use handing::FinishedObus;
 
 // The furthest that a packet can be ahead.
 const FURTHEST_AHEAD: u16 = 32767;
@@ -47,6 +47,14 @@ pub struct Received {
     pub padded: Padded,
     pub fragment_lost: bool,
     pub element_lost: bool,
+}
+
+// The bytes of a fragment: the first `kept` of the store, then `size` of the payload from `start` on.
+#[derive(Clone, Copy)]
+struct Fragment {
+    kept: usize,
+    start: usize,
+    size: usize,
 }
 
 // How the elements of a packet are cut: `joined` bytes of the store go before the first; the first `from` are thrown away, and the one
@@ -159,9 +167,15 @@ fn take_packet(
 {
     let cut = state.cut(number, payload[0], all);
     let left = cut.left;
-    let handed = handing::count_out(
-        payload, cut.cursor, cut.from, cut.to, store, cut.joined, out,
-    )?;
+    let finished = FinishedObus {
+        payload,
+        cursor: cut.cursor,
+        from: cut.from,
+        to: cut.to,
+        store,
+        joined: cut.joined,
+    };
+    let handed = finished.count()?;
     let open = left.kept + left.size;
     if too_long(open, store.len()) {
         return Err(Refusal::FragmentTooLong);
@@ -169,9 +183,7 @@ fn take_packet(
     if handed.bytes > out.len() {
         return Err(Refusal::NoRoomForObus);
     }
-    handing::write_out(
-        payload, cut.cursor, cut.from, cut.to, store, cut.joined, out,
-    );
+    finished.write(out);
     base::copy_bytes(payload, left.start, left.size, store, left.kept);
     Ok(Received {
         state: State {

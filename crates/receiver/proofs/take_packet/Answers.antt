@@ -16,14 +16,14 @@ bounds-payload-0 c = payload_some c.args.payload.now (parts_of c.args.payload.no
 pub cut-cut-requires : goal.cut-cut-requires
 cut-cut-requires c = omega (arith, elements_some c.args.payload.now (parts_of c.args.payload.now) c.requires.read.whole, read_count c.requires.read)
 
-pub count_out-requires : goal.count_out-requires
-count_out-requires c = finishing c.requires c.cut-cut.ensures
+pub invariant_of-finished : goal.invariant_of-finished
+invariant_of-finished c = record { finishing = finishing c.requires c.cut-cut.ensures }
 
 pub returns-in_err-handed : goal.returns-in_err-handed
 returns-in_err-handed c =
     let a = c.args in
-    let e : leaves {A = Answer Received} (refused (number_of c.in_err-handed.field-0.0) 0) a.store.now c.count_out.new.out ≡ received (inputs a.state a.number a.payload.now a.store.now a.out.now) =
-    taking_broken c.requires c.cut-cut.ensures (sym (ap paper c.in_err-handed.was) ∙ c.count_out.ensures.0) c.count_out.ensures.1 in
+    let e : leaves {A = Answer Received} (refused (number_of c.in_err-handed.field-0.0) 0) a.store.now a.out.now ≡ received (inputs a.state a.number a.payload.now a.store.now a.out.now) =
+    taking_broken c.requires c.cut-cut.ensures (sym (ap paper c.in_err-handed.was) ∙ c.count.ensures) in
     search rules
 
 pub overflow_add-open : goal.overflow_add-open
@@ -33,25 +33,21 @@ overflow_add-open c =
 
 pub returns-then-too_long : goal.returns-then-too_long
 returns-then-too_long c =
-    taking_long c.requires c.cut-cut.ensures (sym (ap paper c.in_ok-handed.was) ∙ c.count_out.ensures.0)
-    (sym c.too_long.ensures ∙ c.if-too_long.true) c.count_out.ensures.1
+    taking_long c.requires c.cut-cut.ensures (sym (ap paper c.in_ok-handed.was) ∙ c.count.ensures)
+    (sym c.too_long.ensures ∙ c.if-too_long.true)
 
 pub returns-then-handed-out : goal.returns-then-handed-out
 returns-then-handed-out c =
-    taking_output c.requires c.cut-cut.ensures (sym (ap paper c.in_ok-handed.was) ∙ c.count_out.ensures.0)
-    (sym c.too_long.ensures ∙ c.if-too_long.false) c.count_out.ensures.1 c.if-handed-out.true
+    taking_output c.requires c.cut-cut.ensures (sym (ap paper c.in_ok-handed.was) ∙ c.count.ensures)
+    (sym c.too_long.ensures ∙ c.if-too_long.false) c.if-handed-out.true
 
-pub write_out-requires : goal.write_out-requires
-write_out-requires c =
-    record {
-      finishing = finishing c.requires c.cut-cut.ensures;
-      room_at = room_for c.requires c.cut-cut.ensures (sym (ap paper c.in_ok-handed.was) ∙ c.count_out.ensures.0) c.if-handed-out.false;
-    }
+pub write-requires : goal.write-requires
+write-requires c = room_for c.requires c.cut-cut.ensures (sym (ap paper c.in_ok-handed.was) ∙ c.count.ensures) c.if-handed-out.false
 
 pub copy_bytes-requires : goal.copy_bytes-requires
 copy_bytes-requires c = ((left_it c.requires c.cut-cut.ensures).lies, (long_not (sym c.too_long.ensures ∙ c.if-too_long.false)).0)
 
 pub returns : goal.returns
 returns c =
-    taking_all c.requires c.cut-cut.ensures (sym (ap paper c.in_ok-handed.was) ∙ c.count_out.ensures.0)
-    (sym c.too_long.ensures ∙ c.if-too_long.false) c.count_out.ensures.1 c.if-handed-out.false c.copy_bytes.ensures.1 c.write_out.ensures
+    taking_all c.requires c.cut-cut.ensures (sym (ap paper c.in_ok-handed.was) ∙ c.count.ensures)
+    (sym c.too_long.ensures ∙ c.if-too_long.false) c.if-handed-out.false c.copy_bytes.ensures.1 c.write.ensures

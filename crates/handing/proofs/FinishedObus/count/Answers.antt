@@ -4,9 +4,9 @@ use mathlib.Core.Bool.{false}
 use borrow.Author.Rules.{rules}
 use Rattle.handing.specs.Inside.{handed_of}
 use Rattle.handing.proofs.Turns.{handing_first, handing_end}
-use Rattle.handing.proofs.count_out.Goals as goal
+use Rattle.handing.proofs.FinishedObus.count.Goals as goal
 
-pub returns-then-to-from : goal.returns-then-to-from
-returns-then-to-from c =
+pub returns-then-self : goal.returns-then-self
+returns-then-self c =
     let e : c.default.result ≡ handed_of 0 [] = search rules in
-    rw e (handing_end (handing_first c.requires false _) c.requires c.if-to-from.true)
+    rw e (handing_end (handing_first c.args.self.finishing false []) c.args.self.finishing c.if-self.true).0
