@@ -53,6 +53,9 @@ pub struct Gives<'a> {
     pub lost: Lost,
 }
 
+// What is expected of a packet: that it is taken and gives this, or that it is refused with this number.
+type Expected<'a> = Result<Gives<'a>, u32>;
+
 pub fn end(rt: &impl Print) -> io::Result<()> {
     println!(rt; "")
 }
@@ -141,19 +144,7 @@ impl Case {
         payload: &[u8],
         gives: Gives,
     ) -> io::Result<()> {
-        let mut out = [0u8; OUTPUT];
-        match receiver::receive(self.state, number, payload, &mut self.store, &mut out) {
-            Ok(got) => {
-                self.state = got.state;
-                if is_as_expected(got, &out, number, gives) {
-                    print!(rt; " ok")?;
-                    print_padded(rt, got.padded)
-                } else {
-                    print_taken(rt, got, &out)
-                }
-            }
-            Err(refusal) => print_refused(rt, refusal),
-        }
+        self.comes(rt, number, payload, Ok(gives))
     }
 
     // A packet that is refused, with this number.
@@ -164,39 +155,74 @@ impl Case {
         payload: &[u8],
         refused: u32,
     ) -> io::Result<()> {
+        self.comes(rt, number, payload, Err(refused))
+    }
+
+    // A packet of which this is expected. Only a packet that is taken changes the state.
+    fn comes(
+        &mut self,
+        rt: &impl Print,
+        number: u16,
+        payload: &[u8],
+        expected: Expected,
+    ) -> io::Result<()> {
         let mut out = [0u8; OUTPUT];
-        match receiver::receive(self.state, number, payload, &mut self.store, &mut out) {
-            Ok(got) => print_taken(rt, got, &out),
-            Err(refusal) if base::number(refusal) == refused => print!(rt; " ok"),
-            Err(refusal) => print_refused(rt, refusal),
+        let came = receiver::receive(self.state, number, payload, &mut self.store, &mut out);
+        if let Ok(got) = came {
+            self.state = got.state;
+        }
+        match (came, expected) {
+            (Ok(got), Ok(gives)) if is_as_expected(got, &out, number, gives) => {
+                print!(rt; " ok")?;
+                print_padded(rt, got.padded)
+            }
+            (Ok(got), _) => print_taken(rt, got, &out),
+            (Err(refusal), Err(refused)) if base::number(refusal) == refused => print!(rt; " ok"),
+            (Err(refusal), _) => print_refused(rt, refusal),
         }
     }
 }
 
+// A case of one packet, of which this is expected.
+fn alone(rt: &impl Print, n: usize, payload: &[u8], expected: Expected) -> io::Result<()> {
+    let mut case = Case::begin(rt, n)?;
+    case.comes(rt, FIRST, payload, expected)?;
+    end(rt)
+}
+
 // A case of one packet that is taken and leaves nothing open.
 pub fn whole(rt: &impl Print, n: usize, payload: &[u8], bytes: &[u8]) -> io::Result<()> {
-    let mut case = Case::begin(rt, n)?;
-    case.takes(rt, FIRST, payload, bytes, 0)?;
-    end(rt)
+    let lost = NOTHING;
+    alone(
+        rt,
+        n,
+        payload,
+        Ok(Gives {
+            bytes,
+            open: 0,
+            lost,
+        }),
+    )
 }
 
 // A case of one packet that is refused.
 pub fn broken(rt: &impl Print, n: usize, payload: &[u8], refused: u32) -> io::Result<()> {
-    let mut case = Case::begin(rt, n)?;
-    case.refuses(rt, FIRST, payload, refused)?;
-    end(rt)
+    alone(rt, n, payload, Err(refused))
 }
 
 // A case of one packet, whose first element a fresh receiver throws away.
 pub fn headless(rt: &impl Print, n: usize, payload: &[u8], bytes: &[u8]) -> io::Result<()> {
-    let mut case = Case::begin(rt, n)?;
-    let gives = Gives {
-        bytes,
-        open: 0,
-        lost: ELEMENT,
-    };
-    case.gives(rt, FIRST, payload, gives)?;
-    end(rt)
+    let lost = ELEMENT;
+    alone(
+        rt,
+        n,
+        payload,
+        Ok(Gives {
+            bytes,
+            open: 0,
+            lost,
+        }),
+    )
 }
 
 // Two packets, the first of which leaves so many bytes open.

@@ -17,7 +17,7 @@ use turns::{Came, Failure, LINE_BYTES, Subject, Word};
 // The bytes of a head, of the unit store, and the numbers of a list of 512 records (L12, L13).
 const HEAD_BYTES: usize = 7;
 
-pub const UNIT_STORE: usize = turns::UNIT_STORE;
+pub use turns::UNIT_STORE;
 
 pub const OBU_LIST_NUMBERS: usize = turns::LIST_RECORDS * obu::OBU_NUMBERS;
 
@@ -227,10 +227,7 @@ fn read_subject(wait: Wait) -> Subject
 fn failed_step(stood: Place, subject: Subject, word: Word, line: &mut [u8; LINE_BYTES]) -> Turn
     ensures { Turned (failed stood subject word) result.place result.order line.old line.new unit_store line_bytes }
 {
-    Turn {
-        place: awaiting(stood, Wait::Nothing),
-        order: turns::say(subject, word, 0, line),
-    }
+    turns::saying(awaiting(stood, Wait::Nothing), subject, word, line)
 }
 
 // The next turn, by what came of the one before: all that `planlist` decides.

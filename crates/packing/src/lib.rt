@@ -18,9 +18,7 @@ pub use unit::Progress;
 use unit::UnitFault;
 
 // The bytes of a unit, and of the longest payload that there is room for (L12, L14).
-pub const UNIT_STORE: usize = turns::UNIT_STORE;
-
-pub const OUTPUT_BYTES: usize = turns::OUTPUT_BYTES;
+pub use turns::{OUTPUT_BYTES, UNIT_STORE};
 
 // The numbers of each list, and the bytes of a record with as long a payload as the output holds.
 pub const OBU_LIST_NUMBERS: usize = turns::LIST_RECORDS * obu::OBU_NUMBERS;
@@ -90,11 +88,7 @@ pub fn start() -> Turn
 fn say(place: Place, subject: Subject, word: Word, line: &mut [u8; LINE_BYTES]) -> Turn
     ensures { Gives (says (awaits place Wait.Nothing) subject word 0) result line.old line.new }
 {
-    let last = awaiting(place, Wait::Nothing);
-    Turn {
-        place: last,
-        order: turns::say(subject, word, 0, line),
-    }
+    turns::saying(awaiting(place, Wait::Nothing), subject, word, line)
 }
 
 // After the version byte, if there was one: the rest of the head is read.

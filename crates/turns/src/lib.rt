@@ -1,11 +1,11 @@
 // What the steps of all programs share: the order that a step gives, what came of it, and the lines for standard error (G7, G14).
 #![tactic(auto)]
 
-ghost use Rattle.std.specs.Prelude.{◌≡◌, ◌+◌, ◌≤◌, true, false, length};
+ghost use Rattle.std.specs.Prelude.{◌≡◌, ℕ, ◌+◌, ◌≤◌, true, false, length};
 ghost use Rattle.base.specs.Lists.{front, Put};
 ghost use Rattle.base.specs.Words.{words_most};
 ghost use Rattle.turns.specs.Text.{most_digits, decimal, labelled, subject_text, refusal_text, word_text, line_text};
-ghost use Rattle.turns.specs.Orders.{next_count};
+ghost use Rattle.turns.specs.Orders.{next_count, says, Turned};
 
 // What a program does before its next step, in this order: so many bytes at the front of its output go to standard output, so many
 // at the front of its line to standard error, and so many are read to the front of its input. Without `more` it does nothing and ends;
@@ -148,7 +148,7 @@ fn put_refusal(number: u32, line: &mut [u8], at: usize) -> usize
     requires { at + most_digits + words_most + 3 ≤ length line.old }
     ensures { Put line.old line.new at result (refusal_text number) }
 {
-    let behind = put_decimal(number as u64, line, at);
+    let behind = put_decimal(u64::from(number), line, at);
     let inside = base::put_text(b" (", line, behind);
     let end = base::put_words(number, line, inside);
     base::put_text(b")", line, end)
@@ -185,4 +185,14 @@ pub fn say(subject: Subject, word: Word, read: usize, line: &mut [u8; LINE_BYTES
 {
     let said = put_line(subject, word, line);
     tell(said, read)
+}
+
+// A line is said where a run stands, with nothing written and nothing read.
+pub fn saying<P>(place: P, subject: Subject, word: Word, line: &mut [u8; LINE_BYTES]) -> Turn<P>
+    ensures { (input out : ℕ) → Turned (says place subject word 0) result.place result.order line.old line.new input out }
+{
+    Turn {
+        place,
+        order: say(subject, word, 0, line),
+    }
 }

@@ -25,7 +25,7 @@ const VERSION_BYTES: usize = 1;
 
 pub const PAYLOAD_BYTES: usize = 65536;
 
-pub const OUTPUT_BYTES: usize = turns::OUTPUT_BYTES;
+pub use turns::OUTPUT_BYTES;
 
 pub const FRAGMENT_STORE: usize = 32768;
 
@@ -127,10 +127,7 @@ fn say(place: Place, wait: Wait, subject: Subject, word: Word, line: &mut [u8; L
     requires { Possible place }
     ensures { Gives (says (awaits place wait) subject word 0) result line.old line.new }
 {
-    Turn {
-        place: awaiting(place, wait),
-        order: turns::say(subject, word, 0, line),
-    }
+    turns::saying(awaiting(place, wait), subject, word, line)
 }
 
 // Reading stops at this record.

@@ -56,22 +56,14 @@ fn letter(d: u8) -> u8
     if d < 10 { b'0' + d } else { b'A' - 10 + d }
 }
 
-fn high_letter(b: u8) -> u8 {
-    letter(b / 16)
-}
-
-fn low_letter(b: u8) -> u8 {
-    letter(b % 16)
-}
-
 // The digits of some bytes, as far as there is space: how many there are.
 fn put_digits(bytes: &[u8], text: &mut [u8]) -> usize
     ensures { result ≤ length text.new }
 {
     let n = bytes.len().min(text.len() / 2);
     for i in 0..n {
-        text[i * 2] = high_letter(bytes[i]);
-        text[i * 2 + 1] = low_letter(bytes[i]);
+        text[i * 2] = letter(bytes[i] / 16);
+        text[i * 2 + 1] = letter(bytes[i] % 16);
     }
     n * 2
 }
