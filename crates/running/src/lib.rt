@@ -78,8 +78,8 @@ fn read_once<R: Read>(from: &mut R, input: &mut [u8]) -> io::Result<usize>
     Err(io::Error::new(ErrorKind::TimedOut, "interrupted each time"))
 }
 
-// One write; an interrupted one is tried again. One function over a closure for both was tried: that it tries again is proved, but not what a
-// closure over reader and input leaves in the two after some calls (`returns-clause-ok` of `read_once`).
+// One write; an interrupted one is tried again. One function over a closure for both was tried: what a closure over reader and input leaves
+// in the two after some calls was not proved (`returns-clause-ok` of `read_once`).
 fn write_once<W: Write>(to: &mut W, bytes: &[u8]) -> io::Result<usize>
     ensures within { WritesAtMost result bytes.now }
     ensures ok { IfOk result (λ n. Appends (W.contents to.old) (W.contents to.new) (take n bytes.now)) }
