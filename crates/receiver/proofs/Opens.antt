@@ -127,9 +127,9 @@ module _ {payload : List ℕ} {all : Walked} (read : Read payload all) where
 
 joined_led : (o : List ℕ) (es : List (List ℕ)) → (length o ≡ 0 → ⊥) → with_fragment o true es ≡ led o es
 unfolding with_fragment
-joined_led [] es h = absurd (h refl)
+joined_led [] _ h = absurd (h refl)
 joined_led (b ∷ o) [] h = refl
-joined_led (b ∷ o) (e ∷ es) h = refl
+joined_led (b ∷ o) (e ∷ _) h = refl
 
 joined_thrown : (es : List (List ℕ)) → with_fragment [] true es ≡ led [] (drop 1 es)
 unfolding with_fragment
