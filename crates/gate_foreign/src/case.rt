@@ -19,6 +19,7 @@ pub struct Case {
 }
 
 // What is thrown away with a packet: an open fragment, an element.
+// Two flags, as a `Received` has them.
 #[derive(Clone, Copy, PartialEq)]
 pub struct Lost {
     pub fragment: bool,
@@ -54,6 +55,7 @@ pub struct Gives<'a> {
 }
 
 // What is expected of a packet: that it is taken and gives this, or that it is refused with this number.
+// A number and no `Refusal`: a case states what is published, apart from the library's names.
 type Expected<'a> = Result<Gives<'a>, u32>;
 
 pub fn end(rt: &impl Print) -> io::Result<()> {
@@ -92,6 +94,7 @@ fn print_padded(rt: &impl Print, padded: Padded) -> io::Result<()> {
     Ok(())
 }
 
+// `vectors` prints such words too: a crate for this one line would be no plainer.
 fn print_refused(rt: &impl Print, refusal: Refusal) -> io::Result<()> {
     print!(rt; " refused {}", base::number(refusal))
 }

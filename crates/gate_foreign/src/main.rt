@@ -4,6 +4,7 @@
 // and padded size fields it has, which are worked out by hand in the file `stdout`. A comment takes the payload apart: the aggregation
 // header, then element by element the length field, where there is one, and the OBU's bytes; `Out` is what the rules make of them,
 // and `Lost` what is thrown away, where anything is.
+// A call for each case and no table of them: some have several packets, and the bytes of some are made by code.
 #![tactic(auto)]
 
 mod case;

@@ -67,6 +67,7 @@ pub struct Place {
 pub type Turn = turns::Turn<Place>;
 
 // The same numbers, with this to wait for.
+// Each program has its own `Place`: a generic one would need a trait, for one struct update.
 fn awaiting(place: Place, wait: Wait) -> Place
     ensures { result ≡ awaits place wait }
 {
@@ -114,6 +115,7 @@ fn head_step(place: Place, got: &[u8], out: &mut [u8; LINE_BYTES]) -> Turn
     let Some(stated) = head::read_head(got) else {
         return bad_input(place, out);
     };
+    // copied one by one: the definitions on runs have the numbers of a head flat in a `Place`
     Turn {
         place: Place {
             wait: Wait::Unit,
@@ -165,6 +167,7 @@ fn further_step(
     match packetizer::plan_unit(place.mtu, &unit[..place.length], obus, plan) {
         Err(refused) => {
             let number = base::number(refused.refusal);
+            // `as` for both: there is no `From` from `usize`
             let end = text::put_two(b"refused ", number as u64, b" ", refused.at as u64, out);
             print(place, end)
         }
@@ -224,6 +227,7 @@ fn read_subject(wait: Wait) -> Subject
 }
 
 // After a read or a write that failed: it is said, and the run is over where it stood.
+// `pack` and `unpack` have such a one too, since each promises what its own next step needs.
 fn failed_step(stood: Place, subject: Subject, word: Word, line: &mut [u8; LINE_BYTES]) -> Turn
     ensures { Turned (failed stood subject word) result.place result.order line.old line.new unit_store line_bytes }
 {
@@ -231,6 +235,7 @@ fn failed_step(stood: Place, subject: Subject, word: Word, line: &mut [u8; LINE_
 }
 
 // The next turn, by what came of the one before: all that `planlist` decides.
+// The stores are lent apart and not as a struct: each step takes others of them, and they are the program's.
 // Helper: no more bytes may have come than the input holds, the unit must be within its store, and while lines are printed the lists must
 // be those of the unit, as the step before left them. The stores have exactly their lengths (L12, L13) by their types.
 pub fn step(
@@ -253,6 +258,7 @@ pub fn step(
     match came {
         Err(Failure::Read) => failed_step(place, read_subject(wait), Word::ReadFailed, line),
         Err(Failure::Write) => failed_step(place, Subject::Unit(0), Word::WriteFailed, line),
+        // one step for each thing that is waited for
         Ok(n) => match wait {
             Wait::Head => head_step(place, &input[..n], out),
             Wait::Unit => unit_step(place, &input[..n], unit, out),

@@ -1,4 +1,5 @@
 // What is printed (G9 to G11): two numbers behind their words, and the line of a packet.
+// A cursor stands beside the bytes, and nothing is displayed: each byte is promised.
 ghost use Rattle.std.specs.Prelude.{◌≡◌, ◌+◌, ◌*◌, ◌≤◌, ◌<◌, length};
 ghost use mathlib.Core.List.{flat_map};
 ghost use Rattle.base.specs.Lists.{Put};
@@ -36,6 +37,7 @@ pub fn row_at(unit: &[u8], obus: &[u32], plan: &[u32], k: usize) -> Row
 }
 
 // A hexadecimal digit, in capitals.
+// `vectors` has its own: it stands beside the library, and this digit is promised by a definition of `planlist`.
 fn hex_digit(d: u8) -> u8
     requires { d < 16 }
     ensures { result ≡ capital d }
@@ -78,6 +80,7 @@ fn put_columns(numbers: &[u64], out: &mut [u8]) -> usize
 pub fn put_row(row: Row, out: &mut [u8; LINE_BYTES]) -> usize
     ensures { Printed (row_text row) result out.old out.new }
 {
+    // `as` for all: there is no `From` from `usize`
     let numbers = [
         row.packet as u64,
         row.first_obu as u64,

@@ -52,6 +52,7 @@ pub struct Place {
 pub type Turn = turns::Turn<Place>;
 
 // The same unit, with this to wait for.
+// Each program has its own `Place`: a generic one would need a trait, for one struct update.
 fn awaiting(place: Place, wait: Wait) -> Place
     ensures { result ≡ awaits place wait }
 {
@@ -85,6 +86,7 @@ pub fn start() -> Turn
 }
 
 // A line is said, and the run is over.
+// `unpack` and `planlist` have such a one too, since each promises what its own next step needs.
 fn say(place: Place, subject: Subject, word: Word, line: &mut [u8; LINE_BYTES]) -> Turn
     ensures { Gives (says (awaits place Wait.Nothing) subject word 0) result line.old line.new }
 {
@@ -168,6 +170,7 @@ fn unit_step(
             say(place, Subject::Unit(place.count), word, line)
         }
         Ok(planned) => {
+            // copied one by one: a run also holds how long the unit is and which packet is next, and the definitions have the four flat
             let first = Progress {
                 unit: stated,
                 obus: planned.obus,
@@ -249,6 +252,7 @@ fn packet_step(
 }
 
 // The next turn, by what came of the one before: all that `pack` decides.
+// The stores are lent apart and not as a struct: each step takes others of them, and they are the program's.
 // Helper: no more bytes may have come than the input holds, a unit that is waited for must fit, and while its packets are written it must
 // stand first in the input, its list and plan as the step before left them. The stores have exactly their lengths (L12 to L14) by their types.
 pub fn step(

@@ -55,6 +55,7 @@ pub fn put_record(
     requires { Recordable mtu unit.now obus.now plan.now k width written.old }
     ensures { Put written.old written.new 0 result (record_bytes width (record { number = number; payload = payload_at mtu unit.now k })) }
 {
+    // `as`: there is no `From` from `u32` to `usize`
     let size = packetizer::packet_at(plan, k).packet_size as usize + 1;
     let body = train::put_record_head(written, 0, width, number, size);
     let new = aggregation::new_at(unit, obus, k);

@@ -22,6 +22,7 @@ fn put_line(k: u64, padded: usize, written: &mut [u8; RECORD_BYTES]) -> usize
     ensures { (result ≡ length (line_of k padded)) × (result ≤ record_room) × (written.new ≡ front (line_of k padded) written.old) }
 {
     let blank = turns::put_decimal(k, written, 0);
+    // `as`: there is no `From` from `usize`
     let end = turns::put_labelled(b" ", padded as u64, written, blank);
     base::put_text(b"\n", written, end)
 }

@@ -91,6 +91,7 @@ pub fn ask(write: usize, read: usize) -> Order
 }
 
 // So many bytes of the line are said, nothing is written, and so many bytes are read.
+// Apart from `ask`, since two numbers alike would not say which of them is meant.
 pub fn tell(say: usize, read: usize) -> Order
     ensures { result ≡ record { more = true; write = 0; say = say; read = read } }
 {

@@ -43,6 +43,7 @@ pub enum Wait {
 
 // Where a run stands: what it waits for, how many records came before, the width of the train's length fields once its head was read,
 // the receiver's state, and what was lost.
+// That the width is possible is a clause and no invariant: what a step is lent, and what a run goes on from, are said by it.
 #[derive(Clone, Copy)]
 pub struct Place {
     pub wait: Wait,
@@ -56,6 +57,7 @@ pub struct Place {
 pub type Turn = turns::Turn<Place>;
 
 // The same record, with this to wait for.
+// Each program has its own `Place`: a generic one would need a trait, for one struct update.
 fn awaiting(place: Place, wait: Wait) -> Place
     ensures { result ≡ awaits place wait }
 {
@@ -123,6 +125,7 @@ fn close(place: Place, line: &mut [u8; LINE_BYTES]) -> Turn
 }
 
 // A line is said, and then this is waited for; nothing is read.
+// `pack` and `planlist` have such a one too, since each promises what its own next step needs.
 fn say(place: Place, wait: Wait, subject: Subject, word: Word, line: &mut [u8; LINE_BYTES]) -> Turn
     requires { Possible place }
     ensures { Gives (says (awaits place wait) subject word 0) result line.old line.new }
@@ -175,6 +178,7 @@ fn fields_step(place: Place, got: &[u8], line: &mut [u8; LINE_BYTES]) -> Turn
 }
 
 // After the payload of a record with these fields, or what there was of it.
+// The length of `out` is a clause and no type, since `step` is lent a slice.
 fn payload_step(
     place: Place,
     fields: RecordFields,
@@ -222,6 +226,7 @@ fn written_subject(k: u64) -> Subject
 }
 
 // The next turn, by what came of the one before: all that `unpack` decides.
+// The stores are lent apart and not as a struct: each step takes others of them, and they are the program's.
 // Input, store and output are slices: that they have these lengths is a fact that a caller proves, and not only a type.
 // Helper: every store must have exactly its length (L14, L15), no more bytes may have come than the input holds, and the width must be
 // one that a train has.
@@ -246,6 +251,7 @@ pub fn step(
             let about = written_subject(place.count);
             say(place, Wait::Nothing, about, Word::WriteFailed, line)
         }
+        // one step for each thing that is waited for
         Ok(n) => match place.wait {
             Wait::Version => version_step(place, &input[..n], line),
             Wait::Fields => fields_step(place, &input[..n], line),

@@ -20,6 +20,7 @@ pub const NONE: Losses = Losses {
 };
 
 // One more, if it is so.
+// An `if`, as the definition has it: to add the bool as a number is no plainer.
 fn counted_if(so: bool, k: u64) -> u64
     ensures { result ≡ counted_if so k }
 {
@@ -37,6 +38,7 @@ pub fn with_passed(before: Losses) -> Losses
 }
 
 // After a packet that was taken, and threw this away.
+// Two flags, as a `Received` has them.
 pub fn with_taken(before: Losses, fragment: bool, element: bool) -> Losses
     ensures { result ≡ with_taken before (record { fragment = fragment; element = element }) }
 {

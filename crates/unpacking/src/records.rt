@@ -29,6 +29,7 @@ pub fn unpack_record(
     let Some(packet) = payload.get(..fields.length) else {
         return Err(RecordFault::Broken(Refusal::TrainCut));
     };
+    // a `match`: with `map_err(RecordFault::PassedOver)` the goal `returns` stays open
     match receiver::receive(state, fields.number, packet, store, out) {
         Ok(received) => Ok(received),
         Err(refusal) => Err(RecordFault::PassedOver(refusal)),

@@ -24,6 +24,7 @@ pub struct Line {
     pub plan: usize,
     pub output: usize,
     high: Option<u8>,
+    // the bytes themselves stand in the stores, since a line is emptied without them
     length: usize,
     last: u8,
     repeated: Option<usize>,
@@ -42,11 +43,13 @@ pub const EMPTY: Line = Line {
 };
 
 // A decimal number with one digit more.
+// By hand and not with `parse`: a line comes byte by byte, over the ends of what is read at once.
 fn longer(n: usize, b: u8) -> usize {
-    n % 10000000 * 10 + digit(b) as usize
+    n % 10000000 * 10 + usize::from(digit(b))
 }
 
 // The value of a digit, decimal or hexadecimal; 0 for another byte.
+// By hand: `to_digit` takes small letters too, and would need two conversions.
 fn digit(b: u8) -> u8
     ensures { result < 16 }
 {

@@ -50,6 +50,7 @@ pub fn between(rt: &impl Print, k: usize) -> io::Result<()> {
 }
 
 // A hexadecimal digit, in capitals.
+// `planlist` has its own, for which it proves more than a gate needs.
 fn letter(d: u8) -> u8
     requires { d < 16 }
 {

@@ -1,11 +1,10 @@
-use mathlib.Core.Path.{◌≡◌, refl, sym, ap, ◌∙◌}
+use mathlib.Core.Path.{◌≡◌, refl, sym, ap}
 use lib.ListN.{length, take}
 use Rattle.turns.specs.Orders.{says}
 use Rattle.turns.specs.declared.Subject.{Subject}
 use Rattle.turns.specs.declared.Word.TheVariants as word
 use Rattle.turns.proofs.Orders.{came_part}
 use Rattle.turns.proofs.Turning.{ended}
-use Rattle.std.specs.Prelude.{Err}
 use Rattle.turns.specs.declared.Failure.TheVariants as failure
 use Rattle.unpacking.specs.Steps.{awaits}
 use Rattle.unpacking.specs.declared.Wait.TheVariants as wait
