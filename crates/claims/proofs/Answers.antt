@@ -21,7 +21,7 @@ use Rattle.claims.specs.Answers.{TellsApart}
 pub refusal : TellsApart number_of
 refusal = base.number_one
 
-pub size_read : TellsApart (paper {SizeField})
+pub size_read : TellsApart (paper {A = SizeField})
 size_read = answers.answer_one
 
 pub obu_read : TellsApart obu.paper_read
@@ -30,34 +30,34 @@ obu_read = answers.read_one
 pub whole_obu_lem : TellsApart obu.paper_whole
 whole_obu_lem = answers.whole_one
 
-pub obu_list : TellsApart (paper_at {Listed})
+pub obu_list : TellsApart (paper_at {A = Listed})
 obu_list = answers.placed_one
 
-pub same_list_lem : TellsApart (paper_at {Kept})
+pub same_list_lem : TellsApart (paper_at {A = Kept})
 same_list_lem = answers.placed_one
 
-pub plan_answer_lem : TellsApart (paper_at {Planned})
+pub plan_answer_lem : TellsApart (paper_at {A = Planned})
 plan_answer_lem = answers.placed_one
 
-pub header_answer : TellsApart (paper {ℕ})
+pub header_answer : TellsApart (paper {A = ℕ})
 header_answer = answers.answer_one
 
-pub write_answer : TellsApart (paper_at {Written})
+pub write_answer : TellsApart (paper_at {A = Written})
 write_answer = answers.placed_one
 
-pub element_read : TellsApart (paper_at {Part})
+pub element_read : TellsApart (paper_at {A = Part})
 element_read = answers.placed_one
 
-pub walk : TellsApart (paper_at {Walked})
+pub walk : TellsApart (paper_at {A = Walked})
 walk = answers.placed_one
 
-pub handed_out_lem : TellsApart (paper {Handed})
+pub handed_out_lem : TellsApart (paper {A = Handed})
 handed_out_lem = answers.answer_one
 
-pub receipt : TellsApart (paper {Received})
+pub receipt : TellsApart (paper {A = Received})
 receipt = answers.answer_one
 
-pub head_read : TellsApart (paper {TrainHead})
+pub head_read : TellsApart (paper {A = TrainHead})
 head_read = answers.answer_one
 
 pub fields_read : TellsApart train.paper_fields
