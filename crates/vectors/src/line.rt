@@ -1,5 +1,5 @@
 // The reading of a line, byte by byte: four decimal numbers, and the unit.
-ghost use Rattle.std.specs.Prelude.{◌≤◌, ◌<◌, length};
+ghost use Rattle.std.specs.Prelude.{◌≤◌, ◌<◌};
 
 // One byte more than the longest unit.
 pub const UNIT_STORE: usize = 1048577;
@@ -111,7 +111,7 @@ impl Line {
 
     // At the end of a line: repeats the unit's last byte where told to. How many bytes the unit has.
     pub fn finish_unit(&self, unit: &mut [u8; UNIT_STORE]) -> usize
-        ensures { result ≤ length unit.new }
+        ensures { result ≤ 1048577 }
     {
         let length = self.length.min(UNIT_STORE);
         let end = self.repeated.unwrap_or(0).clamp(length, UNIT_STORE);
