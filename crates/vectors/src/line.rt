@@ -74,7 +74,8 @@ impl Line {
     // A byte of the unit's text.
     fn unit_text(&mut self, b: u8, unit: &mut [u8; UNIT_STORE]) {
         if b == b'*' {
-            self.repeated = Some(0);
+            // a further star leaves the number that has come
+            self.repeated = Some(self.repeated.unwrap_or(0));
         } else if let Some(n) = self.repeated {
             self.repeated = Some(longer(n, b));
         } else if let Some(high) = self.high {
