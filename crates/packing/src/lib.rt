@@ -5,12 +5,12 @@ mod input;
 mod subjects;
 mod unit;
 
-ghost use Rattle.std.specs.Prelude.{◌≡◌, ℕ, ◌<◌, ◌≤◌, List, []};
+ghost use Rattle.std.specs.Prelude.{◌≡◌, ℕ, ◌<◌, ◌≤◌, List, [], length};
 ghost use Rattle.base.specs.Lists.{front};
 ghost use Rattle.payloader.specs.Payload.{payloads_of};
 ghost use Rattle.turns.specs.Orders.{arrival, says};
 ghost use Rattle.packing.specs.Pack.{unit_store, version_in, head_after, length_in};
-ghost use Rattle.packing.specs.Steps.{awaits, next, starts_with, version_told, head_told, length_told, unit_told, step_in, packet_told, told, ReadyAt, LentPackets, Gives, Lent};
+ghost use Rattle.packing.specs.Steps.{plan_list_numbers, awaits, next, starts_with, version_told, head_told, length_told, unit_told, step_in, packet_told, told, ReadyAt, LentPackets, Gives, Lent};
 
 use input::{Cut, InputVersion};
 use turns::{Came, Failure, LINE_BYTES, Subject, Word};
@@ -111,9 +111,10 @@ fn head_step(
     place: Place,
     version: InputVersion,
     got: &[u8],
-    written: &mut [u8; RECORD_BYTES],
+    written: &mut [u8],
     line: &mut [u8; LINE_BYTES],
 ) -> Turn
+    requires { 0 < length written.old }
     ensures { Gives (head_told place (head_after version got.now)) result line.old line.new
         × (written.new ≡ front (head_told place (head_after version got.now)).written written.old) }
 {
@@ -156,10 +157,10 @@ fn unit_step(
     stated: usize,
     got: &[u8],
     obus: &mut [u32; OBU_LIST_NUMBERS],
-    plan: &mut [u32; PLAN_LIST_NUMBERS],
+    plan: &mut [u32],
     line: &mut [u8; LINE_BYTES],
 ) -> Turn
-    requires { stated ≤ unit_store }
+    requires { (stated ≤ unit_store) × (length plan.old ≡ plan_list_numbers) }
     ensures { Gives (unit_told place stated (step_in place.mtu stated got.now)) result line.old line.new
         × ReadyAt result.place got.now obus.new plan.new }
 {
@@ -192,7 +193,7 @@ fn record_turn(
     unit: &[u8],
     obus: &[u32],
     plan: &[u32],
-    written: &mut [u8; RECORD_BYTES],
+    written: &mut [u8],
 ) -> Turn
     requires lent_packets { LentPackets place.mtu progress unit.now obus.now plan.now written.old }
     requires packet_lt_packets { progress.packet < progress.packets }
@@ -235,7 +236,7 @@ fn packet_step(
     unit: &[u8],
     obus: &[u32],
     plan: &[u32],
-    written: &mut [u8; RECORD_BYTES],
+    written: &mut [u8],
 ) -> Turn
     requires { LentPackets place.mtu progress unit.now obus.now plan.now written.old }
     ensures { ((line : List ℕ) → Gives (packet_told place progress (payloads_of place.mtu unit.now)) result line line)
@@ -253,15 +254,16 @@ fn packet_step(
 
 // The next turn, by what came of the one before: all that `pack` decides.
 // The stores are lent apart and not as a struct: each step takes others of them, and they are the program's.
-// Helper: no more bytes may have come than the input holds, a unit that is waited for must fit, and while its packets are written it must
-// stand first in the input, its list and plan as the step before left them. The stores have exactly their lengths (L12 to L14) by their types.
+// Plan and record are slices: that they have these lengths is a fact that a caller proves, and not only a type.
+// Helper: every store must have exactly its length (L12 to L14), no more bytes may have come than the input holds, a unit that is waited
+// for must fit, and while its packets are written it must stand first in the input, its list and plan as the step before left them.
 pub fn step(
     place: Place,
     came: Came,
     input: &[u8; UNIT_STORE],
     obus: &mut [u32; OBU_LIST_NUMBERS],
-    plan: &mut [u32; PLAN_LIST_NUMBERS],
-    written: &mut [u8; RECORD_BYTES],
+    plan: &mut [u32],
+    written: &mut [u8],
     line: &mut [u8; LINE_BYTES],
 ) -> Turn
     requires { Lent place came input.now obus.old plan.old written.old line.old }

@@ -12,13 +12,12 @@ ghost use Rattle.packing.specs.Steps.{record_room, awaits, ReadyAt, Gives, Lent}
 ghost use Rattle.padding.specs.Padded.{padded_in, line_of};
 ghost use Rattle.padding.specs.Steps.{passed, told, out_after, Instead};
 
-use packing::{
-    OBU_LIST_NUMBERS, PLAN_LIST_NUMBERS, Place, Progress, RECORD_BYTES, Turn, UNIT_STORE, Wait,
-};
+use packing::{OBU_LIST_NUMBERS, Place, Progress, Turn, UNIT_STORE, Wait};
 use turns::{Came, LINE_BYTES, Order};
 
 // The line of unit k at the front of the bytes lent, and how many it has.
-fn put_line(k: u64, padded: usize, written: &mut [u8; RECORD_BYTES]) -> usize
+fn put_line(k: u64, padded: usize, written: &mut [u8]) -> usize
+    requires { length written.old ≡ record_room }
     ensures { (result ≡ length (line_of k padded)) × (result ≤ record_room) × (written.new ≡ front (line_of k padded) written.old) }
 {
     let blank = turns::put_decimal(k, written, 0);
@@ -63,8 +62,8 @@ fn turned(turn: Turn, wait: Wait, write: usize) -> Turn
 }
 
 // In place of a turn of `pack`: where the packets of a unit are next its line is written, else nothing.
-fn instead(turn: Turn, input: &[u8], obus: &[u32], written: &mut [u8; RECORD_BYTES]) -> Turn
-    requires { (plan : List ℕ) × ReadyAt turn.place input.now obus.now plan }
+fn instead(turn: Turn, input: &[u8], obus: &[u32], written: &mut [u8]) -> Turn
+    requires { ((plan : List ℕ) × ReadyAt turn.place input.now obus.now plan) × (length written.old ≡ record_room) }
     ensures { Instead turn result input.now written.old written.new }
 {
     let place = turn.place;
@@ -84,8 +83,8 @@ pub fn step(
     came: Came,
     input: &[u8; UNIT_STORE],
     obus: &mut [u32; OBU_LIST_NUMBERS],
-    plan: &mut [u32; PLAN_LIST_NUMBERS],
-    written: &mut [u8; RECORD_BYTES],
+    plan: &mut [u32],
+    written: &mut [u8],
     line: &mut [u8; LINE_BYTES],
 ) -> Turn
     requires { Lent place came input.now obus.old plan.old written.old line.old }

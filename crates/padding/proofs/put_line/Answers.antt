@@ -8,17 +8,17 @@ use Rattle.padding.proofs.put_line.Goals as goal
 
 pub put_labelled-end-requires : goal.put_labelled-end-requires
 put_labelled-end-requires c = let put = c.put_decimal-blank.ensures in
-    omega (arith, put.cursor, decimal_short c.args.k, simp length-sets at (ap length put.stored))
+    omega (arith, c.requires, put.cursor, decimal_short c.args.k, simp length-sets at (ap length put.stored))
 
 pub put_text-requires : goal.put_text-requires
 put_text-requires c = let put = c.put_decimal-blank.ensures in
     let more = c.put_labelled-end.ensures in
-    omega (arith, put.cursor, decimal_short c.args.k, simp length-sets at (ap length put.stored), more.1, simp length-sets at (ap length more.0.stored))
+    omega (arith, c.requires, put.cursor, decimal_short c.args.k, simp length-sets at (ap length put.stored), more.1, simp length-sets at (ap length more.0.stored))
 
 pub returns : goal.returns
 unfolding line_of
 returns c = let all : Put c.args.written.now _ 0 _ (line_of c.args.k c.args.padded) =
     put_then c.put_decimal-blank.ensures (put_then c.put_labelled-end.ensures.0 c.put_text.ensures) in
-    let short : c.put_text.result ≤ length c.args.written.now = omega (arith, c.put_decimal-blank.ensures.cursor, decimal_short c.args.k, c.put_labelled-end.ensures.1, c.put_text.ensures.cursor) in
+    let short : c.put_text.result ≤ length c.args.written.now = omega (arith, c.requires, c.put_decimal-blank.ensures.cursor, decimal_short c.args.k, c.put_labelled-end.ensures.1, c.put_text.ensures.cursor) in
     let stands = put_front all short in
-    (stands.0, omega (arith, short), stands.1)
+    (stands.0, omega (arith, short, c.requires), stands.1)
