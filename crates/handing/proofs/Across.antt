@@ -2,7 +2,7 @@
 use mathlib.Core.Path.{◌≡◌, sym, ap, ap₂, ◌∙◌}
 use Prim.Native.Nat.{ℕ, ◌+◌, ◌-◌, ◌≤◌, ◌<◌, min}
 use native.Mathlib.Omega.{arith}
-use mathlib.Core.List.{List, ◌++◌, append_assoc}
+use mathlib.Core.List.{List, ◌++◌}
 use lib.ListN.{length, take, drop, length-append, length-drop}
 use lib.Seq.{sets, sets-eq, length-take-le, take_all, take_at, take-take, take-append-le, take-append-add, drop-append-add, drop-append-le}
 use lib.Dec.{leb}
@@ -12,6 +12,10 @@ use Rattle.base.proofs.Tests.{split_on}
 use Rattle.obu.specs.Front.{head_bytes}
 use Rattle.handing.specs.Inside.{across}
 use Rattle.handing.proofs.Lists.{replaced_more}
+
+-- what a copy of all of a list leaves, where there is room for it
+pub copied : (to : List ℕ) (at : ℕ) (l : List ℕ) {new : List ℕ} {n : ℕ} → n ≡ length l → at + n ≤ length to → new ≡ sets to at (take n l) → new ≡ replaced to at l
+copied to at l {new} {n} e h g = g ∙ ap (sets to at) (take_all n l (omega arith)) ∙ sets-eq l to at (omega arith)
 
 module _ (store payload : List ℕ) (kept start size : ℕ) (h : kept ≤ length store) (p : start + size ≤ length payload) where
   pub across_length : length (across store kept payload start size) ≡ kept + size
@@ -29,45 +33,32 @@ module _ (a b : List ℕ) where
       ap (λ (i : ℕ). drop i (a ++ b)) (sym n) ∙ drop-append-add a b (skip - length a)
 
   module _ (to : List ℕ) (at skip : ℕ) where
-    pub copied_both : {one two : List ℕ} {next : ℕ} → skip < length a → at + (length (a ++ b) - skip) ≤ length to
-        → (next ≡ at + (length a - skip)) × (one ≡ sets to at (take (length a - skip) (drop skip a))) → length one ≡ length to
-        → two ≡ sets one next (take (length b) b) → two ≡ replaced to at (drop skip (a ++ b))
-    copied_both {one} {two} {next} s r e l g =
-        let m : length (a ++ b) ≡ length a + length b = length-append a b in
-        let n : length (drop skip a) ≡ length a - skip = length-drop skip a in
-        let x : one ≡ replaced to at (drop skip a) = e.1 ∙ ap (sets to at) (take_all (length a - skip) (drop skip a) (omega arith)) ∙ sets-eq (drop skip a) to at (omega arith) in
-        let y : two ≡ replaced one (at + (length a - skip)) b =
+    pub copied_both : {one two : List ℕ} {next : ℕ} → skip < length a → at ≤ length to → one ≡ replaced to at (drop skip a)
+        → next ≡ at + (length a - skip) → two ≡ replaced one next b → two ≡ replaced to at (drop skip (a ++ b))
+    copied_both {one} {two} {next} s r e n g =
+        let m : next ≡ at + length (drop skip a) = omega (arith, length-drop skip a) in
         g
-        ∙ ap₂ (sets one) e.0 (take_all (length b) b (omega arith))
-        ∙ sets-eq b one (at + (length a - skip)) (omega arith) in
-        y
-        ∙ ap₂ (λ (l : List ℕ) (k : ℕ). replaced l (at + k) b) x (sym n)
-        ∙ replaced_more to at (drop skip a) b (omega arith)
+        ∙ ap₂ (λ (l : List ℕ) (k : ℕ). replaced l k b) e m
+        ∙ replaced_more to at (drop skip a) b r
         ∙ ap (replaced to at) (sym (drop-append-le skip a b (omega arith)))
 
-    pub copied_last : {one : List ℕ} → length a ≤ skip → skip ≤ length (a ++ b) → at + (length (a ++ b) - skip) ≤ length to
-        → one ≡ sets to at (take (length b - (skip - length a)) (drop (skip - length a) b)) → one ≡ replaced to at (drop skip (a ++ b))
-    copied_last s t r e =
-        let m : length (a ++ b) ≡ length a + length b = length-append a b in
-        let n : length (drop (skip - length a) b) ≡ length b - (skip - length a) = length-drop (skip - length a) b in
-        e
-        ∙ ap (sets to at) (take_all (length b - (skip - length a)) (drop (skip - length a) b) (omega arith))
-        ∙ sets-eq (drop (skip - length a) b) to at (omega arith)
-        ∙ ap (replaced to at) (sym (drop_last skip s))
+    pub copied_last : {one : List ℕ} → length a ≤ skip → one ≡ replaced to at (drop (skip - length a) b) → one ≡ replaced to at (drop skip (a ++ b))
+    copied_last s e = e ∙ ap (replaced to at) (sym (drop_last skip s))
 
   -- ---- the first ten
 
   module _ (i j : ℕ) (ei : i ≡ min (length a) head_bytes) (ej : j ≡ min (length b) (head_bytes - i)) where
     -- they are copied into an array, one after the other
-    pub head_copied : {one two : List ℕ} (left after : List ℕ) → one ≡ take i a → two ≡ take j b
-        → take (i + j) (take i (one ++ left) ++ (two ++ after)) ≡ take i a ++ take j b
-    head_copied {one} {two} left after e g =
+    pub head_copied : (zeros : List ℕ) {one two : List ℕ} → one ≡ replaced zeros 0 (take i a) → two ≡ replaced one i (take j b)
+        → take (i + j) two ≡ take i a ++ take j b
+    head_copied zeros {one} {two} e g =
         let li : length (take i a) ≡ i = length-take-le i a (omega arith) in
         let lj : length (take j b) ≡ j = length-take-le j b (omega arith) in
-        let t : take i (one ++ left) ≡ take i a = take_at one left i (ap length e ∙ li) ∙ e in
-        rw (t, g)
-        (ap (take (i + j)) (sym (append_assoc (take i a) (take j b) after))
-        ∙ take_at (take i a ++ take j b) after (i + j) (length-append (take i a) (take j b) ∙ ap₂ ◌+◌ li lj))
+        let t : take i one ≡ take i a = ap (take i) e ∙ take_at (take i a) (drop (0 + length (take i a)) zeros) i li in
+        let n : length (take i one ++ take j b) ≡ i + j = length-append (take i one) (take j b) ∙ ap₂ ◌+◌ (ap length t ∙ li) lj in
+        ap (take (i + j)) g
+        ∙ take_at (take i one ++ take j b) (drop (i + length (take j b)) one) (i + j) n
+        ∙ ap (λ (l : List ℕ). l ++ take j b) t
 
     pub head_same : take head_bytes (a ++ b) ≡ take head_bytes (take i a ++ take j b)
     head_same = split_on (leb head_bytes (length a))

@@ -56,8 +56,8 @@ impl Across<'_> {
         let mut head = [0u8; HEAD_BYTES];
         let a = self.stored.len().min(HEAD_BYTES);
         let b = self.element.len().min(HEAD_BYTES - a);
-        head[..a].copy_from_slice(&self.stored[..a]);
-        head[a..a + b].copy_from_slice(&self.element[..b]);
+        base::copy_bytes(self.stored, 0, a, &mut head, 0);
+        base::copy_bytes(self.element, 0, b, &mut head, a);
         obu::whole_obu(&head[..a + b], self.stored.len() + self.element.len())
     }
 }

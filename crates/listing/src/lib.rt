@@ -141,7 +141,7 @@ fn unit_step(
     if got.len() < place.length {
         return bad_input(place, out);
     }
-    unit[..place.length].copy_from_slice(&got[..place.length]);
+    base::copy_bytes(got, 0, place.length, unit, 0);
     Turn {
         place: awaiting(place, Wait::Further),
         order: turns::ask(0, 1),

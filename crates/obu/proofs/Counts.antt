@@ -58,7 +58,7 @@ module _ {unit : List ℕ} {space at n padded : ℕ} (w : Counted unit space at 
       padded_next = rw (one_more has_padded w.acc (placed at f), w.padded_is, counts)
 
       -- no more than bytes
-      padded_few : padded + more ≤ at + span_of f
+      pub padded_few : padded + more ≤ at + span_of f
       padded_few = omega (arith, w.fewer, one_at_most (has_padded (placed at f)))
 
       pub counted_drop : drops (type_of f.header) ≡ true → Counted unit space (at + span_of f) n (padded + more)
